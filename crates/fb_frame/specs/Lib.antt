@@ -1,0 +1,11 @@
+pub mod NameText
+pub mod Padded
+pub mod NameInside
+pub mod WordInside
+pub mod Rows
+pub mod Slots
+pub mod Numbers
+pub mod Greeting
+pub mod Framing
+pub mod Causes
+pub mod Laws

@@ -1,0 +1,8 @@
+//! The way to a device: the trait `Port`, and what a host does over any port.
+#![tactic(auto)]
+
+pub mod deaf;
+pub mod download;
+pub mod host;
+pub mod open;
+pub mod port;

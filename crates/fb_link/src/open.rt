@@ -1,0 +1,70 @@
+ghost use Rattle.std.specs.Prelude.{◌≡◌, ◌≢◌, ℕ, List, ◌⊎◌, ◌+◌, ◌^◌, ◌≤◌, length, Option, None, Bool, IsTrue, IsFalse, OnOk, OnErr};
+ghost use Rattle.std.specs.Result.{IsErrOf};
+ghost use Rattle.fb_frame.specs.Greeting.{handshake};
+ghost use Rattle.fb_frame.specs.Causes.{Rose};
+ghost use Rattle.wire_model.specs.Places.{IsKept, Appended};
+ghost use Rattle.wire_model.specs.Told.{HungUp, Lost, IsBarred, Begun, Greeted, Opened};
+
+use crate::host::{recv_all, send_all};
+use crate::port::Port;
+
+/// Why a connection didn't begin.
+#[derive(Debug, Drop)]
+pub enum OpenError {
+    Link,
+    BadHandshake,
+}
+
+fn is_greeting(four: &[u8; 4]) -> bool
+    ensures yes { IsTrue result → four.now ≡ handshake 1 }
+    ensures no { IsFalse result → four.now ≢ handshake 1 }
+{
+    four.as_slice() == b"FB01".as_slice()
+}
+
+/// Exchanges the handshakes on a connection that has just begun.
+#[tactic(auto, using(wire_model::proofs::GreetLemmas::greets, wire_model::proofs::KeptLemmas::kept))]
+pub fn greet<P: Port>(port: &mut P) -> Result<(), OpenError>
+    requires up { IsTrue (P.up port.old) }
+    requires begun { Begun (P.peer port.old) }
+    ensures up { OnOk result (IsTrue (P.up port.new)) }
+    ensures greeted { OnOk result (Greeted (P.peer port.old) (P.peer port.new)) }
+    ensures lost { IsErrOf result OpenError.Link → Lost (P.peer port.old) (P.peer port.new) }
+    ensures bad { IsErrOf result OpenError.BadHandshake → P.peer port.old ≡ None }
+    ensures kept { IsKept (P.aimed port.old) (P.aimed port.new) (P.last port.old) (P.last port.new) (P.stands port.old) (P.stands port.new) }
+    ensures later { P.faults port.old ≤ P.faults port.new }
+    ensures ends { P.ends port.old ≤ P.ends port.new }
+    ensures cause { IsErrOf result OpenError.Link → Rose (P.faults port.old) (P.faults port.new) ⊎ Rose (P.ends port.old) (P.ends port.new) }
+{
+    let Ok(()) = send_all(port, b"FB01") else {
+        return Err(OpenError::Link);
+    };
+    let mut four = [0; 4];
+    let Ok(()) = recv_all(port, &mut four) else {
+        return Err(OpenError::Link);
+    };
+    if !is_greeting(&four) {
+        return Err(OpenError::BadHandshake);
+    }
+    Ok(())
+}
+
+/// Begins a connection and exchanges the handshakes.
+#[tactic(auto, using(wire_model::proofs::GreetLemmas::opens, wire_model::proofs::KeptLemmas::kept))]
+pub fn open<P: Port>(port: &mut P) -> Result<(), OpenError>
+    requires aimed { IsTrue (P.aimed port.old) }
+    ensures up { OnOk result (IsTrue (P.up port.new)) }
+    ensures opened { OnOk result (Opened (2 ^ 61) (P.peer port.old) (P.peer port.new)) }
+    ensures left { IsErrOf result OpenError.Link → HungUp (P.peer port.old) (P.peer port.new) }
+    ensures bad { IsErrOf result OpenError.BadHandshake → P.peer port.old ≡ None }
+    ensures kept { IsKept (P.aimed port.old) (P.aimed port.new) (P.last port.old) (P.last port.new) (P.stands port.old) (P.stands port.new) }
+    ensures later { P.faults port.old ≤ P.faults port.new }
+    ensures ends { P.ends port.old ≤ P.ends port.new }
+    ensures cause { IsErrOf result OpenError.Link → (Rose (P.faults port.old) (P.faults port.new) ⊎ Rose (P.ends port.old) (P.ends port.new)) ⊎ IsBarred (P.peer port.old) }
+{
+    let Ok(()) = port.connect() else {
+        return Err(OpenError::Link);
+    };
+    greet(port)?;
+    Ok(())
+}

@@ -1,0 +1,10 @@
+pub mod TableFile
+pub mod Says
+pub mod Wire
+pub mod Halts
+pub mod Laws
+pub mod Rows
+pub mod Peers
+pub mod Turns
+pub mod Told
+pub mod Places
