@@ -9,3 +9,5 @@ pub mod Greeting
 pub mod Framing
 pub mod Causes
 pub mod Laws
+pub mod Sinks
+pub mod MemoryText

@@ -1,0 +1,6 @@
+use thiserror::Error;
+
+/// There was not enough memory.
+#[derive(Debug, Drop, Error)]
+#[error("out of memory")]
+pub struct Memory;
