@@ -1,0 +1,62 @@
+-- Told disks: the files by their paths, the open file, and lists of bytes that were written over.
+use Rattle.std.specs.Prelude.{◌≡◌, ◌≢◌, ℕ, ◌+◌, ◌≤◌, List, ◌++◌, length, take, drop, replicate, Option, Some, None}
+
+-- the bytes of each file that is there, by the bytes of its path
+abbrev pub Files : Type 0
+Files = List ℕ → Option (List ℕ)
+
+-- zeros of this length
+unfoldable pub zeros : ℕ → List ℕ
+zeros n = replicate n 0
+
+-- the old bytes, with these ones over them from this place on
+unfoldable pub written : List ℕ → ℕ → List ℕ → List ℕ
+written old at bytes = take at old ++ (bytes ++ drop (at + length bytes) old)
+
+-- the bytes of the open file, where the disk tells its files and one is open
+unfoldable pub content : Option Files → Option (List ℕ) → Option (List ℕ)
+content None path = None
+content (Some files) None = None
+content (Some files) (Some path) = files path
+
+-- both lists have the same length and differ at most in this range
+pub record DifferWithin (at count : ℕ) (old new : List ℕ) : Type 0 where
+  pub same_length : length new ≡ length old
+  pub front : take at new ≡ take at old
+  pub rest : drop (at + count) new ≡ drop (at + count) old
+
+-- the range lies in the open file
+abbrev pub IsInside : Option ℕ → ℕ → ℕ → Type 0
+IsInside None at count = ⊥
+IsInside (Some size) at count = at + count ≤ size
+
+-- the told bytes of this place
+abbrev pub IsRead : Option (List ℕ) → ℕ → List ℕ → Type 0
+IsRead None at bytes = Unit {0}
+IsRead (Some file) at bytes = bytes ≡ take (length bytes) (drop at file)
+
+-- these bytes were written over the told ones
+abbrev pub Wrote : Option (List ℕ) → Option (List ℕ) → ℕ → List ℕ → Type 0
+Wrote None None at bytes = Unit {0}
+Wrote None (Some new) at bytes = ⊥
+Wrote (Some old) None at bytes = ⊥
+Wrote (Some old) (Some new) at bytes = new ≡ written old at bytes
+
+-- any bytes were written over the told ones in this range
+abbrev pub WroteInPart : Option (List ℕ) → Option (List ℕ) → ℕ → ℕ → Type 0
+WroteInPart None None at count = Unit {0}
+WroteInPart None (Some new) at count = ⊥
+WroteInPart (Some old) None at count = ⊥
+WroteInPart (Some old) (Some new) at count = DifferWithin at count old new
+
+-- no told file changed but that of this path
+abbrev pub KeepsOthers : Option Files → Option Files → List ℕ → Type 0
+KeepsOthers None None path = Unit {0}
+KeepsOthers None (Some new) path = ⊥
+KeepsOthers (Some old) None path = ⊥
+KeepsOthers (Some old) (Some new) path = (other : List ℕ) → other ≢ path → new other ≡ old other
+
+-- no told file changed but the open one
+abbrev pub KeepsUnopened : Option Files → Option Files → Option (List ℕ) → Type 0
+KeepsUnopened old new None = new ≡ old
+KeepsUnopened old new (Some path) = KeepsOthers old new path

@@ -1,0 +1,5 @@
+//! Files that a device's image lies in: the trait `Disk`, a disk in memory and a real one, and twin
+//! copies of small blocks.
+#![tactic(auto)]
+
+pub mod disk;
