@@ -1,0 +1,5 @@
+//! The top call of fbflash, and the in-process device that it rehearses an installation on.
+#![tactic(auto)]
+
+pub mod host_words;
+pub mod product;
