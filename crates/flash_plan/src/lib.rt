@@ -1,0 +1,6 @@
+//! A product's folder: the trait `ProductDir`, a folder in memory, and a folder of the system.
+#![tactic(auto)]
+
+pub mod dir;
+pub mod memory_dir;
+pub mod read;
