@@ -3,7 +3,7 @@ ghost use Rattle.std.specs.Result.{IsErrOf};
 ghost use Rattle.fb_frame.specs.Framing.{frame};
 ghost use Rattle.fb_frame.specs.Causes.{HasCause, Rose};
 ghost use Rattle.wire_model.specs.Places.{IsKept, Appended, AppendedHead, AppendedReply};
-ghost use Rattle.wire_model.specs.Told.{Sent, LeftBy, Heard, IsHead, HeardHead, HeardReply, HungUp, MaySend, Gives, Owes, Idle, Answers, AreShort, Asked, IsOkay, Did, DidSo};
+ghost use Rattle.wire_model.specs.Told.{Sent, LeftBy, Heard, IsHead, HeardHead, HeardReply, HungUp, MaySend, Passes, Gives, Owes, Idle, Answers, AreShort, Asked, IsOkay, Did, DidSo};
 
 use crate::port::{LinkFault, Port};
 
@@ -11,7 +11,7 @@ use crate::port::{LinkFault, Port};
 #[tactic(auto, using(wire_model::proofs::ToldLemmas::told_loop, wire_model::proofs::KeptLemmas::kept))]
 pub fn send_all<P: Port>(port: &mut P, bytes: &[u8]) -> Result<(), LinkFault>
     requires up { IsTrue (P.up port.old) }
-    requires turn { MaySend (P.peer port.old) bytes.now }
+    requires turn { MaySend P.takes (P.peer port.old) bytes.now }
     ensures up { OnOk result (IsTrue (P.up port.new)) }
     ensures sent { OnOk result (Sent (P.faults port.old) (P.faults port.new) (P.peer port.old) (P.peer port.new) bytes.now) }
     ensures left { OnErr result (LeftBy (P.faults port.old) (P.faults port.new) (P.peer port.old) (P.peer port.new) bytes.now) }
@@ -58,6 +58,7 @@ pub fn recv_all<P: Port>(port: &mut P, buf: &mut [u8]) -> Result<(), LinkFault>
 pub fn send_frame<P: Port>(port: &mut P, payload: &[u8]) -> Result<(), LinkFault>
     requires up { IsTrue (P.up port.old) }
     requires idle { Idle (8 + length payload.now) (P.peer port.old) }
+    requires passes { Passes P.takes (P.peer port.old) payload.now }
     requires some { 0 < length payload.now }
     requires short { length payload.now ≤ 4096 }
     ensures up { OnOk result (IsTrue (P.up port.new)) }
@@ -147,6 +148,7 @@ pub fn ask<P: Port>(port: &mut P, payload: &[u8], buf: &mut [u8; 256]) -> Result
     requires up { IsTrue (P.up port.old) }
     requires idle { Idle (8 + length payload.now) (P.peer port.old) }
     requires replies { AreShort payload.now (P.peer port.old) }
+    requires passes { Passes P.takes (P.peer port.old) payload.now }
     requires some { 0 < length payload.now }
     requires short { length payload.now ≤ 4096 }
     ensures within { IfOk result (λ n. n ≤ 256) }
@@ -179,6 +181,7 @@ pub fn order<P: Port>(port: &mut P, payload: &[u8]) -> Result<bool, AskError>
     requires up { IsTrue (P.up port.old) }
     requires idle { Idle (8 + length payload.now) (P.peer port.old) }
     requires replies { AreShort payload.now (P.peer port.old) }
+    requires passes { Passes P.takes (P.peer port.old) payload.now }
     requires some { 0 < length payload.now }
     requires short { length payload.now ≤ 4096 }
     ensures up { OnOk result (IsTrue (P.up port.new)) }

@@ -3,6 +3,8 @@ ghost use Rattle.std.specs.Result.{IsErrOf};
 ghost use Rattle.fb_frame.specs.Causes.{HasCause, Rose};
 ghost use Rattle.wire_model.specs.Peers.{Peer};
 ghost use Rattle.wire_model.specs.Places.{Place, Stand, IsNothing, IsBad, Aims, IsLast, KeepsOthers, IsKept, Appended, Emptied};
+ghost use Rattle.wire_model.specs.FirstPath.{PassesFirst};
+ghost use Rattle.wire_model.specs.Says.{Loaded};
 ghost use Rattle.wire_model.specs.Told.{Sent, LeftBy, Heard, HungUp, Connected, IsBarred, InTurn, MayHear, AtEnd};
 ghost use Rattle.fb_link.specs.Targets.{place_of};
 
@@ -49,6 +51,9 @@ pub trait Port {
     /// The bytes received in the last connection, where the port tells them.
     ghost heard: { Self → Option (List ℕ) };
 
+    /// The test of the commands that the port takes: what is loaded, and a command's payload.
+    ghost takes: { Loaded → List ℕ → Bool };
+
     /// The count of faults.
     ghost faults: { Self → ℕ };
 
@@ -90,7 +95,7 @@ pub trait Port {
     /// Takes the first bytes of the piece, at least one of a piece that isn't empty.
     fn send(&mut self, bytes: &[u8]) -> Result<usize, LinkFault>
         requires up { IsTrue (up self.old) }
-        requires turn { InTurn (peer self.old) bytes.now }
+        requires turn { InTurn takes (peer self.old) bytes.now }
         ensures within { IfOk result (λ n. n ≤ length bytes.now) }
         ensures some { IfOk result (λ n. 0 < length bytes.now → 0 < n) }
         ensures up { OnOk result (IsTrue (up self.new)) }
@@ -130,4 +135,7 @@ pub trait Port {
         ensures heard { heard self.new ≡ heard self.old }
         ensures faults { faults self.new ≡ faults self.old }
         ensures ends { ends self.new ≡ ends self.old };
+
+    /// The test passes at least the commands of the first path.
+    ghost takes_first: { PassesFirst takes };
 }

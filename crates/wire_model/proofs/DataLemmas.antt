@@ -1,6 +1,6 @@
 -- A download's data, in frames.
 use Rattle.std.proofs.Common.{◌≡◌, ◌≢◌, ◌⊎◌, inl, inr, ℕ, ◌+◌, ◌-◌, ◌<◌, ◌≤◌, true, false, cond, List, [], ◌++◌, length, take, drop, Option, Some, None, refl, sym, ap, ◌∙◌, subst, arith, length-append, length-take, length-drop}
-use Rattle.std.specs.Prelude.{codes, nat_eq, nat_lt}
+use Rattle.std.specs.Prelude.{codes, nat_eq, nat_lt, IsTrue}
 use Rattle.std.specs.Int.{w64, to_be_bytes}
 use Rattle.std.proofs.lemmas.Bool.Decides.{nat_tests}
 use Rattle.std.proofs.lemmas.List.{take-append-drop, take_all}
@@ -11,7 +11,7 @@ use Rattle.fb_frame.specs.Framing.{frame}
 use Rattle.fb_frame.specs.Causes.{Rose}
 use Rattle.wire_model.specs.Peers.{Peer, Apart, Joined}
 use Rattle.wire_model.specs.Wire.{Wire, Shake, Command, Data, received, paid}
-use Rattle.wire_model.specs.Turns.{room}
+use Rattle.wire_model.specs.Turns.{room, CommandTest}
 use Rattle.wire_model.specs.Told.{GoesBy, Sent, OneFrame, IsFront, MaySend, IsReceiving, Receiving, IsFilled, Filled, IsLoaded, LoadedBy, IsLeft, LeftBy, Lost}
 use Rattle.wire_model.proofs.Lifted.{of-of, of-on, of-stays, with-on, on-then, on-off}
 use Rattle.wire_model.proofs.OneFrames.{goes-same, length-frame, goes-whole, paid_by, IsBroken}
@@ -36,14 +36,18 @@ data-frame spare count got p w i some h s = record {
   bounded = omega (arith, i.bounded, length-frame p);
 }
 
-pub MaySend-data-head : (spare count : ℕ) (got p head_bytes : List ℕ) (a : Option Peer) → Receiving spare count got a → 0 < length p → length got + length p ≤ count → length p ≤ 65536 → head_bytes ≡ to_be_bytes w64 (length p) → MaySend a head_bytes
-MaySend-data-head spare count got p head_bytes a r some h s e =
-    of-of (IsReceiving spare count got) (IsFront head_bytes) (λ w i. head-front p head_bytes e w (data-frame spare count got p w i some h s)) a r
+-- it is no command
+pub data-passes : (test : CommandTest) (spare count : ℕ) (got p : List ℕ) (w : Wire) → IsReceiving spare count got w → w.phase ≡ Command → IsTrue (test w.loaded p)
+data-passes test spare count got p w i e = absurd (command-not-data count got (sym e ∙ i.receiving))
 
-pub MaySend-data : (k l spare count : ℕ) (got p head_bytes : List ℕ) (a b : Option Peer) → Receiving spare count got a → 0 < length p → length got + length p ≤ count → length p ≤ 65536 → head_bytes ≡ to_be_bytes w64 (length p) → Sent k l a b head_bytes → MaySend b p
-MaySend-data k l spare count got p head_bytes a b r some h s e g =
-    of-on (IsReceiving spare count got) (λ w v. GoesBy (Rose k l) w head_bytes v) (IsFront p)
-    (λ w v i q. payload-front (Rose k l) p head_bytes e w v (data-frame spare count got p w i some h s) q) a b r g
+pub MaySend-data-head : (test : CommandTest) (spare count : ℕ) (got p head_bytes : List ℕ) (a : Option Peer) → Receiving spare count got a → 0 < length p → length got + length p ≤ count → length p ≤ 65536 → head_bytes ≡ to_be_bytes w64 (length p) → MaySend test a head_bytes
+MaySend-data-head test spare count got p head_bytes a r some h s e =
+    of-of (IsReceiving spare count got) (IsFront test head_bytes) (λ w i. head-front test p head_bytes e w (data-passes test spare count got p w i) (data-frame spare count got p w i some h s)) a r
+
+pub MaySend-data : (test : CommandTest) (k l spare count : ℕ) (got p head_bytes : List ℕ) (a b : Option Peer) → Receiving spare count got a → 0 < length p → length got + length p ≤ count → length p ≤ 65536 → head_bytes ≡ to_be_bytes w64 (length p) → Sent k l a b head_bytes → MaySend test b p
+MaySend-data test k l spare count got p head_bytes a b r some h s e g =
+    of-on (IsReceiving spare count got) (λ w v. GoesBy (Rose k l) w head_bytes v) (IsFront test p)
+    (λ w v i q. payload-front test (Rose k l) p head_bytes e w v (data-passes test spare count got p w i) (data-frame spare count got p w i some h s) q) a b r g
 
 -- a whole frame of data is taken as it is: nothing breaks
 taken : (broke : Type 0) (spare count : ℕ) (got p : List ℕ) (w v : Wire) → IsReceiving spare count got w → 0 < length p → length got + length p ≤ count → length p ≤ 65536 → GoesBy broke w (frame p) v → v ≡ record (received count (got ++ p) w) { rest = []; taken = w.taken + length (frame p) }
@@ -146,21 +150,21 @@ Loaded-part k l spare image at a b r i s g =
     subst (λ t. LoadedBy spare t a b) (take-part image at (length image) (omega arith) ∙ take-length image)
     (Loaded-last k l spare (length image) (take at image) (take (length image - at) (drop at image)) a b r (omega arith) (omega arith) (omega arith) g)
 
-pub MaySend-part-head : (spare : ℕ) (image : List ℕ) (at end : ℕ) (head_bytes : List ℕ) (a : Option Peer) → Receiving spare (length image) (take at image) a → at < end → end ≤ length image → end - at ≤ 65536 → head_bytes ≡ to_be_bytes w64 (end - at) → MaySend a head_bytes
-MaySend-part-head spare image at end head_bytes a r i j s e =
+pub MaySend-part-head : (test : CommandTest) (spare : ℕ) (image : List ℕ) (at end : ℕ) (head_bytes : List ℕ) (a : Option Peer) → Receiving spare (length image) (take at image) a → at < end → end ≤ length image → end - at ≤ 65536 → head_bytes ≡ to_be_bytes w64 (end - at) → MaySend test a head_bytes
+MaySend-part-head test spare image at end head_bytes a r i j s e =
     let n = length-take at image in
     let m = length-take (end - at) (drop at image) in
     let d = length-drop at image in
     let k : length (take (end - at) (drop at image)) ≡ end - at = omega arith in
-    MaySend-data-head spare (length image) (take at image) (take (end - at) (drop at image)) head_bytes a r (omega arith) (omega arith) (omega arith) (e ∙ ap (to_be_bytes w64) (sym k))
+    MaySend-data-head test spare (length image) (take at image) (take (end - at) (drop at image)) head_bytes a r (omega arith) (omega arith) (omega arith) (e ∙ ap (to_be_bytes w64) (sym k))
 
-pub MaySend-part : (k l spare : ℕ) (image : List ℕ) (at end : ℕ) (head_bytes : List ℕ) (a b : Option Peer) → Receiving spare (length image) (take at image) a → at < end → end ≤ length image → end - at ≤ 65536 → head_bytes ≡ to_be_bytes w64 (end - at) → Sent k l a b head_bytes → MaySend b (take (end - at) (drop at image))
-MaySend-part k l spare image at end head_bytes a b r i j s e g =
+pub MaySend-part : (test : CommandTest) (k l spare : ℕ) (image : List ℕ) (at end : ℕ) (head_bytes : List ℕ) (a b : Option Peer) → Receiving spare (length image) (take at image) a → at < end → end ≤ length image → end - at ≤ 65536 → head_bytes ≡ to_be_bytes w64 (end - at) → Sent k l a b head_bytes → MaySend test b (take (end - at) (drop at image))
+MaySend-part test k l spare image at end head_bytes a b r i j s e g =
     let n = length-take at image in
     let m = length-take (end - at) (drop at image) in
     let d = length-drop at image in
     let q : length (take (end - at) (drop at image)) ≡ end - at = omega arith in
-    MaySend-data k l spare (length image) (take at image) (take (end - at) (drop at image)) head_bytes a b r (omega arith) (omega arith) (omega arith) (e ∙ ap (to_be_bytes w64) (sym q)) g
+    MaySend-data test k l spare (length image) (take at image) (take (end - at) (drop at image)) head_bytes a b r (omega arith) (omega arith) (omega arith) (e ∙ ap (to_be_bytes w64) (sym q)) g
 
 received-device : (count : ℕ) (got : List ℕ) (w : Wire) (n : ℕ) → (record (received count got w) { rest = []; taken = n }).device ≡ w.device
 received-device count got w n =

@@ -6,5 +6,6 @@ pub mod Laws
 pub mod Rows
 pub mod Peers
 pub mod Turns
+pub mod FirstPath
 pub mod Told
 pub mod Places
