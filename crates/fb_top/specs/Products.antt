@@ -1,18 +1,18 @@
 -- The product of a directory (AOSP: android-info.txt, fastboot-info.txt version 1 and the images that it
 -- names), in the forms that are built: no requirement, one flash task, and one raw image.
-use Rattle.std.specs.Prelude.{◌≡◌, ℕ, ◌+◌, ◌-◌, ◌%◌, ◌<◌, ◌≤◌, Bool, true, false, not, ◌&&◌, List, [], ◌∷◌, ◌++◌, length, take, drop, map, replicate, nat_le, nat_lt, nat_eq, ◌==◌, Option, Some, None, Result, Ok, Err, if◌then◌else◌, unwrap_or, slice_index, codes, option_and_then}
+use Rattle.std.specs.Prelude.{◌≡◌, ℕ, ◌+◌, ◌-◌, ◌%◌, ◌<◌, ◌≤◌, Bool, true, false, not, ◌&&◌, ◌||◌, List, [], ◌∷◌, ◌++◌, length, take, drop, map, replicate, nat_le, nat_lt, nat_eq, ◌==◌, Option, Some, None, Result, Ok, Err, if◌then◌else◌, unwrap_or, slice_index, codes, option_and_then}
 use Rattle.std.specs.List.{starts_with, ends_with}
 use Rattle.fb_frame.specs.NameText.{is_name, name_of}
 use Rattle.dev_model.specs.Options.{◌>>=◌}
 use Rattle.dev_model.specs.declared.cells.Cell.{Cell}
 use Rattle.dev_model.specs.declared.cells.Cell.TheVariants.{Byte}
 use Rattle.dev_model.specs.Images.{image, is_sparse, round_up}
+use Rattle.flash_plan.specs.Files.{Files, IsAbsent, IsLonger}
+use Rattle.fb_frame.specs.Causes.{Rose}
+use Rattle.fb_top.specs.declared.product.ProductError.{ProductError}
+use Rattle.fb_top.specs.declared.product.ProductError.TheVariants.{Memory, Directory, Bad}
 use Rattle.fb_top.specs.declared.product.Flaw.{Flaw}
 use Rattle.fb_top.specs.declared.product.Flaw.TheVariants.{Absent, NotBuilt, Empty}
-
--- the files of a directory, by name
-abbrev pub Files : Type 0
-Files = List ℕ → Option (List ℕ)
 
 -- what is installed: the partition of the flash task, and its image
 pub record ProductValue : Type 0 where
@@ -81,13 +81,25 @@ pub record IsRawImage (bytes : List ℕ) : Type 0 where
   pub whole : length bytes % 4096 ≡ 0
   pub most : length bytes ≤ most_bytes
 
+-- what is wrong with a raw image
+abbrev pub image_flaw : List ℕ → Option Flaw
+image_flaw file =
+    if length file == 0 then Some Empty
+    else (if is_sparse file || nat_lt most_bytes (round_up (length file)) then Some NotBuilt else None)
+
+-- the file with the zeros that fill its last block
+abbrev pub padded : List ℕ → List ℕ
+padded file = file ++ replicate (round_up (length file) - length file) 0
+
+-- the image of a file without this flaw
+abbrev pub image_or : Option Flaw → List ℕ → Result (List Cell) Flaw
+image_or (Some flaw) file = Err flaw
+image_or None file = Ok (unwrap_or (image file) [])
+
 -- the raw image
 abbrev pub raw_image : Option (List ℕ) → Result (List Cell) Flaw
 raw_image None = Err Absent
-raw_image (Some file) =
-    if length file == 0 then Err Empty
-    else (if is_sparse file then Err NotBuilt
-    else (if nat_lt most_bytes (round_up (length file)) then Err NotBuilt else Ok (unwrap_or (image file) [])))
+raw_image (Some file) = image_or (image_flaw file) file
 
 -- goes on with what a file holds, or stops at its flaw
 abbrev pub at_file : {X Y : Type 0} → List ℕ → Result X Flaw → (X → Result Y Fault) → Result Y Fault
@@ -101,3 +113,57 @@ product_of files =
     at_file tasks_file (flash_task (files tasks_file)) (λ name.
     at_file (image_file name) (raw_image (files (image_file name))) (λ cells.
     Ok (record { name = name; image = cells }))))
+
+-- a fact of the files that a directory tells
+abbrev pub OfFiles : Option Files → (Files → Type 0) → Type 0
+OfFiles None P = Unit {0}
+OfFiles (Some files) P = P files
+
+-- the told files are this product
+abbrev pub IsProduct : Option Files → List ℕ → List Cell → Type 0
+IsProduct files name image = OfFiles files (λ f. product_of f ≡ Ok (record { name = name; image = image }))
+
+-- the told files are no product, and this flaw of this file is the first
+abbrev pub IsFlawed : Option Files → List ℕ → Flaw → Type 0
+IsFlawed files file flaw = OfFiles files (λ f. product_of f ≡ Err (file, flaw))
+
+-- what stops a file of at most so many bytes from being read
+abbrev pub Unread : Option Files → List ℕ → ℕ → Flaw → Type 0
+Unread files file most Absent = IsAbsent files file
+Unread files file most NotBuilt = IsLonger files file most
+Unread files file most Empty = ⊥
+
+-- Why the inspection of a directory stops: the files are said to have this flaw, or the directory failed.
+abbrev pub Stops : (List ℕ → Flaw → Type 0) → ℕ → ℕ → ProductError → Type 0
+Stops Says before now Memory = Unit {0}
+Stops Says before now (Directory file) = Rose before now
+Stops Says before now (Bad file flaw) = Says file flaw
+
+-- a file of at most so many bytes isn't read
+abbrev pub StopsAt : Option Files → List ℕ → ℕ → ℕ → ℕ → ProductError → Type 0
+StopsAt files name most before now e = Stops (λ file flaw. (file ≡ name) × Unread files name most flaw) before now e
+
+-- what the told files say of the requirements, of the task, and of the image of this name
+abbrev pub SayRequirements : Option Files → Result (Unit {0}) Flaw → Type 0
+SayRequirements files answer = OfFiles files (λ f. no_requirements (f requirements_file) ≡ answer)
+
+abbrev pub SayTask : Option Files → Result (List ℕ) Flaw → Type 0
+SayTask files answer = OfFiles files (λ f. flash_task (f tasks_file) ≡ answer)
+
+abbrev pub SayImage : Option Files → List ℕ → Result (List Cell) Flaw → Type 0
+SayImage files name answer = OfFiles files (λ f. raw_image (f (image_file name)) ≡ answer)
+
+-- a flaw of the requirements, of the task, of the image, and the first of all
+abbrev pub StopsRequirements : Option Files → ℕ → ℕ → ProductError → Type 0
+StopsRequirements files before now e =
+    Stops (λ file flaw. (file ≡ requirements_file) × SayRequirements files (Err flaw)) before now e
+
+abbrev pub StopsTask : Option Files → ℕ → ℕ → ProductError → Type 0
+StopsTask files before now e = Stops (λ file flaw. (file ≡ tasks_file) × SayTask files (Err flaw)) before now e
+
+abbrev pub StopsImage : Option Files → List ℕ → ℕ → ℕ → ProductError → Type 0
+StopsImage files name before now e =
+    Stops (λ file flaw. (file ≡ image_file name) × SayImage files name (Err flaw)) before now e
+
+abbrev pub StopsProduct : Option Files → ℕ → ℕ → ProductError → Type 0
+StopsProduct files before now e = Stops (IsFlawed files) before now e
