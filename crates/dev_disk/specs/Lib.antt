@@ -1,2 +1,4 @@
 pub mod Files
 pub mod Calls
+pub mod MemoryFiles
+pub mod Failing

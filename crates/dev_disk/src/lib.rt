@@ -3,3 +3,5 @@
 #![tactic(auto)]
 
 pub mod disk;
+mod failures;
+mod memory_files;
