@@ -15,5 +15,5 @@ fails_next failures = list_any (λ n. n == next_number failures.calls) failures.
 abbrev pub counted : Failures → Failures
 counted failures = record failures {
   calls = next_number failures.calls;
-  faults = if fails_next failures then next_number failures.faults else failures.faults
+  faults = if fails_next failures then next_number failures.faults else failures.faults;
 }

@@ -2,3 +2,5 @@ pub mod Files
 pub mod Calls
 pub mod MemoryFiles
 pub mod Failing
+pub mod MemoryLaws
+pub mod Memory

@@ -1,5 +1,5 @@
 -- The files of a disk in memory, as a list; of two with one path the first counts.
-use Rattle.std.specs.Prelude.{◌≡◌, ℕ, Bool, List, [], length, Option, Some, None, find, position, option_map, slice_get}
+use Rattle.std.specs.Prelude.{◌≡◌, ℕ, Bool, List, [], length, Option, Some, find, position, option_map, slice_get}
 use Rattle.std.specs.Option.{option_map_or}
 use Rattle.std.specs.Str.{bytes_eq}
 use Rattle.dev_disk.specs.declared.memory_files.MemoryFile.{MemoryFile}

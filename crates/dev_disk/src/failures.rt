@@ -1,4 +1,5 @@
 ghost use Rattle.std.specs.Prelude.{◌≡◌, is_err};
+ghost use Rattle.fb_frame.specs.Causes.{HasCause};
 ghost use Rattle.dev_disk.specs.Failing.{fails_next, counted};
 
 use crate::disk::DiskFault;
@@ -17,6 +18,7 @@ impl Failures {
     pub fn pass(&mut self) -> Result<(), DiskFault>
         ensures fails { is_err result ≡ fails_next self.old }
         ensures counts { self.new ≡ counted self.old }
+        ensures cause { HasCause self.old.faults self.new.faults result }
     {
         self.calls = self.calls.saturating_add(1);
         if self.fails.contains(&self.calls) {

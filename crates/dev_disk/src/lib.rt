@@ -4,4 +4,5 @@
 
 pub mod disk;
 mod failures;
+pub mod memory;
 mod memory_files;
