@@ -1,2 +1,6 @@
 pub mod Files
 pub mod Calls
+pub mod MemoryFiles
+pub mod Failing
+pub mod MemoryLaws
+pub mod Memory

@@ -3,3 +3,6 @@
 #![tactic(auto)]
 
 pub mod disk;
+mod failures;
+pub mod memory;
+mod memory_files;

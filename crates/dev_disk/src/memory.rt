@@ -1,0 +1,141 @@
+ghost use Rattle.std.specs.Prelude.{◌≡◌, ◌≢◌, ℕ, List, length, Option, Some, None, option_map, OnOk, OnErr, IfOk};
+ghost use Rattle.std.specs.Option.{ForSome};
+ghost use Rattle.dev_disk.specs.Files.{zeros};
+ghost use Rattle.dev_disk.specs.MemoryFiles.{IsFirst};
+
+use crate::disk::{CreateError, Disk, DiskFault};
+use crate::failures::Failures;
+use crate::memory_files::{MemoryFile, bytes_at, find_place, overwrite_at, put};
+use std::alloc::{AllocError, Global};
+
+/// Memory ran out.
+#[derive(Debug, Drop)]
+pub struct Memory;
+
+/// Files in memory. It tells all of them, and fails at the calls whose numbers it was made with; such
+/// a call changes nothing.
+#[derive(Debug, Drop)]
+pub struct MemoryDisk {
+    files: Vec<MemoryFile>,
+    opened: Option<usize>,
+    failures: Failures,
+    ghost opened_is_there: { ForSome opened (IsFirst files.items) },
+}
+
+/// Zeros of this length.
+#[tactic(auto, unfolding(crate::specs::Files::zeros))]
+fn make_zeros(alloc: Global, size: usize) -> Result<Vec<u8>, AllocError>
+    ensures zeros { IfOk result (λ bytes. bytes.items ≡ zeros size) }
+    ensures length { IfOk result (λ bytes. length bytes.items ≡ size) }
+{
+    let mut bytes = Vec::new(alloc);
+    bytes.resize(size, 0)?;
+    Ok(bytes)
+}
+
+impl MemoryDisk {
+    ghost use Rattle.dev_disk.specs.Memory.{memory_files, memory_path, memory_length, memory_fails, memory_calls, memory_faults};
+
+    /// A disk without files. `fails` has the numbers, from 1, of the calls that fail.
+    pub fn new(alloc: Global, fails: Vec<u64>) -> Result<MemoryDisk, Memory>
+        ensures empty { IfOk result (λ disk. (path : List ℕ) → memory_files disk path ≡ None) }
+        ensures shut { IfOk result (λ disk. memory_path disk ≡ None) }
+        ensures fails { IfOk result (λ disk. memory_fails disk ≡ fails.items) }
+        ensures calls { IfOk result (λ disk. memory_calls disk ≡ 0) }
+        ensures faults { IfOk result (λ disk. memory_faults disk ≡ 0) }
+    {
+        Ok(MemoryDisk {
+            files: Vec::new(alloc),
+            opened: None,
+            failures: Failures {
+                fails,
+                calls: 0,
+                faults: 0,
+            },
+        })
+    }
+
+    /// Adds a file, in place of any one of its path.
+    pub fn add(&mut self, alloc: Global, path: &str, bytes: &[u8]) -> Result<(), Memory>
+        ensures added { OnOk result (memory_files self.new path.now ≡ Some bytes.now) }
+        ensures others { (other : List ℕ) → other ≢ path.now → memory_files self.new other ≡ memory_files self.old other }
+        ensures same { OnErr result (memory_files self.new ≡ memory_files self.old) }
+        ensures path { memory_path self.new ≡ memory_path self.old }
+        ensures failures { self.new.failures ≡ self.old.failures }
+    {
+        let path = Vec::from_slice(alloc, path.as_bytes()).map_err(|_| Memory)?;
+        let bytes = Vec::from_slice(alloc, bytes).map_err(|_| Memory)?;
+        put(&mut self.files, path, bytes).map_err(|_| Memory)?;
+        Ok(())
+    }
+
+    /// The bytes of the file of the path.
+    pub fn file(&self, path: &str) -> Option<&[u8]>
+        ensures { option_map (λ bytes. bytes.now) result ≡ memory_files self.now path.now }
+    {
+        match find_place(&self.files, path.as_bytes()) {
+            Some(place) => Some(bytes_at(&self.files, place)),
+            None => None,
+        }
+    }
+}
+
+impl Disk for MemoryDisk {
+    ghost use Rattle.dev_disk.specs.Memory.{memory_files, memory_path, memory_length, memory_faults};
+    ghost use Rattle.dev_disk.specs.MemoryLaws.{agree};
+
+    ghost open_length = { memory_length };
+
+    ghost files = { λ disk. Some (memory_files disk) };
+
+    ghost open_path = { memory_path };
+
+    ghost faults = { memory_faults };
+
+    fn open(&mut self, path: &str) -> Result<Option<u64>, DiskFault> {
+        self.failures.pass()?;
+        let Some(place) = find_place(&self.files, path.as_bytes()) else {
+            return Ok(None);
+        };
+        let size = bytes_at(&self.files, place).len() as u64;
+        self.opened = Some(place);
+        Ok(Some(size))
+    }
+
+    fn create(&mut self, alloc: Global, path: &str, size: u64) -> Result<(), CreateError> {
+        let Ok(()) = self.failures.pass() else {
+            return Err(CreateError::Disk);
+        };
+        let path = Vec::from_slice(alloc, path.as_bytes()).map_err(|_| CreateError::Memory)?;
+        let bytes = make_zeros(alloc, size as usize).map_err(|_| CreateError::Memory)?;
+        let place = put(&mut self.files, path, bytes).map_err(|_| CreateError::Memory)?;
+        self.opened = Some(place);
+        Ok(())
+    }
+
+    fn read_at(&mut self, at: u64, buf: &mut [u8]) -> Result<(), DiskFault> {
+        self.failures.pass()?;
+        let Some(place) = self.opened else {
+            unreachable!()
+        };
+        let bytes = bytes_at(&self.files, place);
+        let start = at as usize;
+        buf.copy_from_slice(&bytes[start..start + buf.len()]);
+        Ok(())
+    }
+
+    fn write_at(&mut self, at: u64, bytes: &[u8]) -> Result<(), DiskFault> {
+        self.failures.pass()?;
+        let Some(place) = self.opened else {
+            unreachable!()
+        };
+        overwrite_at(&mut self.files, place, at as usize, bytes);
+        Ok(())
+    }
+
+    fn sync(&mut self) -> Result<(), DiskFault> {
+        self.failures.pass()
+    }
+
+    ghost agrees = { λ disk. agree disk.files.items disk.opened disk.opened_is_there };
+}
