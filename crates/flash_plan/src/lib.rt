@@ -2,5 +2,7 @@
 #![tactic(auto)]
 
 pub mod dir;
+pub mod folder_dir;
+mod folder_path;
 pub mod memory_dir;
 pub mod read;

@@ -1,10 +1,13 @@
-ghost use Rattle.std.specs.Prelude.{◌≡◌, ◌+◌, ◌-◌, ◌≤◌, min, length, take, drop, Some, None, IfOk, MatchOption, string_bytes};
-ghost use Rattle.fb_frame.specs.Causes.{HasCause};
-ghost use Rattle.flash_plan.specs.MemoryFiles.{file_of};
+ghost use Rattle.std.specs.Prelude.{◌≡◌, ◌↔◌, ◌+◌, ◌-◌, ◌<◌, ◌≤◌, min, [], length, take, drop, option_map, Some, None, false, IfOk, IsTrue, MatchOption, string_bytes};
+ghost use Rattle.std.specs.Result.{IsErr, IsErrOf};
+ghost use Rattle.fb_frame.specs.Causes.{Rose, HasCause};
+ghost use Rattle.flash_plan.specs.Files.{IsThere, HasSize, MayRead, IsRead};
+ghost use Rattle.flash_plan.specs.MemoryFiles.{file_of, fails_next, after_call, after_enter, after_read};
 
 use crate::dir::{DirFault, EnterError, ProductDir};
 use fb_frame::memory::Memory;
 use std::alloc::Global;
+use std::marker::Model;
 
 /// A file of a folder in memory.
 #[derive(Debug, Drop)]
@@ -22,6 +25,16 @@ pub struct MemoryDir {
     calls: u64,
     entered: bool,
     faults: u64,
+    longest: u32,
+}
+
+impl Model for MemoryDir {
+    ghost use Rattle.std.specs.Prelude.{string_bytes};
+    ghost use Rattle.flash_plan.specs.MemoryFiles.{MemoryFolder};
+
+    ghost Value = { MemoryFolder };
+
+    ghost view = { λ dir. record { path = string_bytes dir.path; files = dir.files.items; fails = dir.fails.items; calls = dir.calls; entered = dir.entered; faults = dir.faults; longest = dir.longest } };
 }
 
 impl MemoryDir {
@@ -33,12 +46,9 @@ impl MemoryDir {
         files: Vec<DirFile>,
         fails: Vec<u64>,
     ) -> Result<MemoryDir, Memory>
-        ensures path { IfOk result (λ dir. ⟦<MemoryDir as ProductDir>⟧.told_path dir ≡ Some path.now) }
-        ensures files { IfOk result (λ dir. ⟦<MemoryDir as ProductDir>⟧.files dir ≡ Some (file_of files.items)) }
+        ensures { IfOk result (λ dir. dir ≡ record { path = path.now; files = files.items; fails = fails.items; calls = 0; entered = false; faults = 0; longest = 0 }) }
     {
-        let Ok(path) = path.to_string(alloc) else {
-            return Err(Memory);
-        };
+        let path = path.to_string(alloc).map_err(|_| Memory)?;
         Ok(MemoryDir {
             path,
             files,
@@ -46,14 +56,21 @@ impl MemoryDir {
             calls: 0,
             entered: false,
             faults: 0,
+            longest: 0,
         })
+    }
+
+    /// The most bytes that a read asked for at once.
+    pub fn longest(&self) -> u32
+        ensures { result ≡ self.now.longest }
+    {
+        self.longest
     }
 
     /// Counts a call of the trait, which may be one that fails.
     fn count(&mut self) -> Result<(), DirFault>
-        ensures path { self.new.path ≡ self.old.path }
-        ensures files { self.new.files ≡ self.old.files }
-        ensures entered { self.new.entered ≡ self.old.entered }
+        ensures after { self.new ≡ after_call self.old }
+        ensures fails { IsErr result ↔ IsTrue (fails_next self.old) }
         ensures cause { HasCause self.old.faults self.new.faults result }
     {
         self.calls = self.calls.saturating_add(1);
@@ -89,18 +106,24 @@ fn copy_part(bytes: &[u8], at: usize, buf: &mut [u8]) -> usize
 }
 
 impl ProductDir for MemoryDir {
-    ghost use Rattle.std.specs.Prelude.{Some, string_bytes};
+    ghost use Rattle.std.specs.Prelude.{Some};
     ghost use Rattle.flash_plan.specs.MemoryFiles.{file_of};
 
-    ghost told_path = { λ dir. Some (string_bytes dir.path) };
+    ghost told_path = { λ dir. Some dir.path };
 
-    ghost files = { λ dir. Some (file_of dir.files.items) };
+    ghost files = { λ dir. Some (file_of dir.files) };
 
     ghost entered = { λ dir. dir.entered };
 
     ghost faults = { λ dir. dir.faults };
 
-    fn enter(&mut self, _alloc: Global, path: &str) -> Result<bool, EnterError> {
+    fn enter(&mut self, _alloc: Global, path: &str) -> Result<bool, EnterError>
+        ensures entered { IfOk result (λ there. self.new.entered ≡ there) }
+        ensures there { IfOk result (λ there. IsThere (Some self.old.path) path.now there) }
+        ensures fails { IsErr result ↔ IsTrue (fails_next self.old) }
+        ensures after { self.new ≡ after_enter self.old path.now }
+        ensures cause { HasCause self.old.faults self.new.faults result }
+    {
         self.entered = false;
         let Ok(()) = self.count() else {
             return Err(EnterError::Dir);
@@ -109,7 +132,12 @@ impl ProductDir for MemoryDir {
         Ok(self.entered)
     }
 
-    fn size(&mut self, name: &[u8]) -> Result<Option<u64>, DirFault> {
+    fn size(&mut self, name: &[u8]) -> Result<Option<u64>, DirFault>
+        ensures size { IfOk result (λ size. HasSize (Some (file_of self.old.files)) name.now size) }
+        ensures fails { IsErr result ↔ IsTrue (fails_next self.old) }
+        ensures after { self.new ≡ after_call self.old }
+        ensures cause { HasCause self.old.faults self.new.faults result }
+    {
         self.count()?;
         match file_at(self.files.as_slice(), name) {
             Some(bytes) => Ok(Some(bytes.len() as u64)),
@@ -117,7 +145,17 @@ impl ProductDir for MemoryDir {
         }
     }
 
-    fn read_at(&mut self, name: &[u8], at: u64, buf: &mut [u8]) -> Result<usize, DirFault> {
+    fn read_at(&mut self, name: &[u8], at: u64, buf: &mut [u8]) -> Result<usize, DirFault>
+        requires { MayRead (Some (file_of self.old.files)) name.now at }
+        ensures within { IfOk result (λ n. n ≤ length buf.new) }
+        ensures some { IfOk result (λ n. 0 < length buf.new → 0 < n) }
+        ensures read { IfOk result (λ n. IsRead (Some (file_of self.old.files)) name.now at (take n buf.new)) }
+        ensures fails { IsErr result ↔ IsTrue (fails_next self.old) }
+        ensures after { self.new ≡ after_read self.old (length buf.old) }
+        ensures cause { HasCause self.old.faults self.new.faults result }
+    {
+        let asked = buf.len().min(u32::MAX as usize) as u32;
+        self.longest = self.longest.max(asked);
         self.count()?;
         let bytes = file_at(self.files.as_slice(), name).unwrap();
         let n = copy_part(bytes, at as usize, buf);
