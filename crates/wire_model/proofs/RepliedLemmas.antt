@@ -1,6 +1,6 @@
 -- A command and its first reply: what is behind them.
-use Rattle.std.proofs.Common.{◌≡◌, ◌≢◌, ◌⊎◌, inl, inr, ℕ, ◌+◌, ◌*◌, ◌<◌, ◌≤◌, Bool, true, false, cond, List, [], ◌∷◌, ◌++◌, length, take, map, Option, Some, None, refl, sym, ap, ◌∙◌, subst, arith, get_or, append_assoc, append-nil, length-take}
-use Rattle.std.specs.Prelude.{flat_map, codes, All, IsTrue, not, bytes_eq, option_and_then}
+use Rattle.std.proofs.Common.{◌≡◌, ◌≢◌, ◌⊎◌, inl, inr, ℕ, ◌+◌, ◌*◌, ◌<◌, ◌≤◌, Bool, true, false, cond, List, [], ◌∷◌, ◌++◌, length, take, map, Option, Some, None, refl, sym, ap, ◌∙◌, subst, arith, get_or, append_assoc, length-take}
+use Rattle.std.specs.Prelude.{codes, All, IsTrue, not, bytes_eq, option_and_then}
 use Rattle.std.proofs.lemmas.List.Elements.{All-head}
 use Rattle.fb_frame.specs.Framing.{frame}
 use Rattle.fb_frame.specs.Causes.{Rose}
@@ -14,12 +14,12 @@ use Rattle.dev_model.specs.Variables.{value}
 use Rattle.wire_model.specs.Peers.{Peer, OfLink}
 use Rattle.wire_model.specs.TableFile.{tables_of}
 use Rattle.wire_model.specs.Says.{Loaded, Said, says, decides, awaits, tells, tells_all}
-use Rattle.wire_model.specs.Wire.{Wire, Command, answered}
+use Rattle.wire_model.specs.Wire.{Wire, answered}
 use Rattle.wire_model.specs.Halts.{Halts, faulted}
-use Rattle.wire_model.specs.Told.{GoesBy, Sent, HeardReply, IsIdle, Idle, IsShort, AreShort, replies_to, IsAsked, Asked, disk_fault, done, IsNoLoad, IsPlain, Did, IsReceiving, Receiving}
-use Rattle.wire_model.specs.Replied.{IsFirstOf, IsDone, failed_in, IsFailed, IsReplied, Replied, Done, IsData, is_steady}
+use Rattle.wire_model.specs.Told.{Sent, HeardReply, IsIdle, Idle, IsShort, AreShort, replies_to, IsAsked, Asked, disk_fault, done, IsNoLoad, Did, IsReceiving, Receiving}
+use Rattle.wire_model.specs.Replied.{IsFirstOf, IsDone, IsFailed, IsReplied, Replied, Done, IsData, is_steady}
 use Rattle.wire_model.proofs.Lifted.{of-both, of-on, with-on, on-on}
-use Rattle.wire_model.proofs.OneFrames.{length-frame, goes-whole, paid_by, IsBroken}
+use Rattle.wire_model.proofs.OneFrames.{goes-whole, paid_by, IsBroken}
 use Rattle.wire_model.proofs.ToldLemmas.{idle-frame, Asked-from}
 use Rattle.wire_model.proofs.AnswerLemmas.{HasFirst, says-first, answered-adds, bytes_of, broken-out, frame-front, paid-done}
 use Rattle.wire_model.proofs.BehindLemmas.{idle-again, receiving-now}
