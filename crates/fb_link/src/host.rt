@@ -3,9 +3,11 @@ ghost use Rattle.std.specs.Result.{IsErrOf};
 ghost use Rattle.fb_frame.specs.Framing.{frame};
 ghost use Rattle.fb_frame.specs.Causes.{HasCause, Rose};
 ghost use Rattle.wire_model.specs.Places.{IsKept, Appended, AppendedHead, AppendedReply};
+ghost use Rattle.wire_model.specs.Replied.{Replied};
 ghost use Rattle.wire_model.specs.Told.{Sent, LeftBy, Heard, IsHead, HeardHead, HeardReply, HungUp, MaySend, Passes, Gives, Owes, Idle, Answers, AreShort, Asked, IsOkay, Did, DidSo};
 
 use crate::port::{LinkFault, Port};
+use thiserror::Error;
 
 /// Sends all the bytes, in as many calls as the port wants to have.
 #[tactic(auto, using(wire_model::proofs::ToldLemmas::told_loop, wire_model::proofs::KeptLemmas::kept))]
@@ -76,9 +78,11 @@ pub fn send_frame<P: Port>(port: &mut P, payload: &[u8]) -> Result<(), LinkFault
 }
 
 /// Why a command wasn't answered.
-#[derive(Debug, Drop)]
+#[derive(Debug, Drop, Error)]
 pub enum AskError {
+    #[error("the connection failed")]
     Link,
+    #[error("what came is no reply")]
     BadReply,
 }
 
@@ -143,7 +147,7 @@ pub fn hear<P: Port>(port: &mut P, buf: &mut [u8; 256]) -> Result<usize, AskErro
 }
 
 /// Sends one command, and receives the reply that comes next; answers its length.
-#[tactic(auto, using(wire_model::proofs::AnswerLemmas::told_asks, wire_model::proofs::KeptLemmas::kept))]
+#[tactic(auto, using(wire_model::proofs::AnswerLemmas::told_asks, wire_model::proofs::RepliedLemmas::told_replies, wire_model::proofs::KeptLemmas::kept))]
 pub fn ask<P: Port>(port: &mut P, payload: &[u8], buf: &mut [u8; 256]) -> Result<usize, AskError>
     requires up { IsTrue (P.up port.old) }
     requires idle { Idle (8 + length payload.now) (P.peer port.old) }
@@ -154,6 +158,7 @@ pub fn ask<P: Port>(port: &mut P, payload: &[u8], buf: &mut [u8; 256]) -> Result
     ensures within { IfOk result (λ n. n ≤ 256) }
     ensures up { OnOk result (IsTrue (P.up port.new)) }
     ensures asked { IfOk result (λ n. Asked (P.faults port.old) (P.faults port.new) (P.peer port.old) (P.peer port.new) payload.now (take n buf.new)) }
+    ensures replied { IfOk result (λ n. Replied (P.faults port.old) (P.faults port.new) (P.peer port.old) (P.peer port.new) payload.now (take n buf.new)) }
     ensures left { IsErrOf result AskError.Link → LeftBy (P.faults port.old) (P.faults port.new) (P.peer port.old) (P.peer port.new) (frame payload.now) }
     ensures bad { IsErrOf result AskError.BadReply → P.peer port.old ≡ None }
     ensures kept { IsKept (P.aimed port.old) (P.aimed port.new) (P.last port.old) (P.last port.new) (P.stands port.old) (P.stands port.new) }

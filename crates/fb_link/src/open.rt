@@ -7,11 +7,14 @@ ghost use Rattle.wire_model.specs.Told.{HungUp, Lost, IsBarred, Begun, Greeted, 
 
 use crate::host::{recv_all, send_all};
 use crate::port::Port;
+use thiserror::Error;
 
 /// Why a connection didn't begin.
-#[derive(Debug, Drop)]
+#[derive(Debug, Drop, Error)]
 pub enum OpenError {
+    #[error("the connection failed")]
     Link,
+    #[error("what came is no handshake")]
     BadHandshake,
 }
 

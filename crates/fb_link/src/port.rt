@@ -10,9 +10,11 @@ ghost use Rattle.fb_link.specs.Targets.{place_of};
 
 use dev_model::bad_image::BadImage;
 use std::alloc::Global;
+use thiserror::Error;
 
 /// The outside refused a call.
-#[derive(Debug, Drop)]
+#[derive(Debug, Drop, Error)]
+#[error("the connection failed")]
 pub struct LinkFault;
 
 /// Where a device is found.
@@ -23,11 +25,15 @@ pub enum Target<'a> {
 }
 
 /// Why a port isn't aimed.
-#[derive(Debug, Drop)]
+#[derive(Debug, Drop, Error)]
 pub enum AimError {
+    #[error("the target could not be reached")]
     Link,
+    #[error("there is no such target")]
     NoTarget,
+    #[error("the target is no device")]
     BadDevice(BadImage),
+    #[error("out of memory")]
     Memory,
 }
 
@@ -138,4 +144,46 @@ pub trait Port {
 
     /// The test passes at least the commands of the first path.
     ghost takes_first: { PassesFirst takes };
+}
+
+impl<P: Port> Port for &mut P {
+    ghost peer = { λ p. P.peer p.now };
+
+    ghost up = { λ p. P.up p.now };
+
+    ghost aimed = { λ p. P.aimed p.now };
+
+    ghost last = { λ p. P.last p.now };
+
+    ghost stands = { λ p. P.stands p.now };
+
+    ghost heard = { λ p. P.heard p.now };
+
+    ghost takes = { P.takes };
+
+    ghost faults = { λ p. P.faults p.now };
+
+    ghost ends = { λ p. P.ends p.now };
+
+    fn aim(&mut self, alloc: Global, target: &Target<'_>) -> Result<(), AimError> {
+        (**self).aim(alloc, target)
+    }
+
+    fn connect(&mut self) -> Result<(), LinkFault> {
+        (**self).connect()
+    }
+
+    fn send(&mut self, bytes: &[u8]) -> Result<usize, LinkFault> {
+        (**self).send(bytes)
+    }
+
+    fn recv(&mut self, buf: &mut [u8]) -> Result<usize, LinkFault> {
+        (**self).recv(buf)
+    }
+
+    fn hang_up(&mut self) {
+        (**self).hang_up()
+    }
+
+    ghost takes_first = { P.takes_first };
 }

@@ -89,10 +89,10 @@ awaited-adds (Fail text ∷ replies) w = adds-nothing w
 awaited-adds (Info text ∷ replies) w = adds-nothing w
 awaited-adds (Text text ∷ replies) w = adds-nothing w
 
-abbrev bytes_of : List Reply → List ℕ
+abbrev pub bytes_of : List Reply → List ℕ
 bytes_of replies = flat_map (λ reply. frame (reply_bytes reply)) replies
 
-answered-adds : (said : Said) (w : Wire) → ((answered said w).device ≡ said.device) × (more : List ℕ) × ((answered said w).out ≡ (w.out ++ bytes_of said.replies) ++ more)
+pub answered-adds : (said : Said) (w : Wire) → ((answered said w).device ≡ said.device) × (more : List ℕ) × ((answered said w).out ≡ (w.out ++ bytes_of said.replies) ++ more)
 answered-adds said w =
     awaited-adds said.replies (record (with_replies said.replies w) { device = said.device; loaded = said.loaded; closed = said.closed })
 
@@ -143,7 +143,7 @@ letters h = absurd (omega arith)
 not-okay : take 4 disk_fault ≢ codes "OKAY"
 not-okay e = letters (ap (λ t. get_or t 0 0) e)
 
-paid-done : (ph : Phase) (p : List ℕ) (w : Wire) (n : ℕ) → ph ≡ Command → n ≡ length (frame p) → record (paid ph p w) { rest = []; taken = w.taken + n } ≡ done p w
+pub paid-done : (ph : Phase) (p : List ℕ) (w : Wire) (n : ℕ) → ph ≡ Command → n ≡ length (frame p) → record (paid ph p w) { rest = []; taken = w.taken + n } ≡ done p w
 paid-done ph p w n e m = ap (λ q. record (paid q p w) { rest = []; taken = w.taken + n }) e ∙ ap (λ k. record (paid Command p w) { rest = []; taken = w.taken + k }) m
 
 did : (broke : Type 0) (spare : ℕ) (p answer : List ℕ) (w v u : Wire) → IsIdle spare w → length answer ≤ 256 → answer ≢ disk_fault → (v ≡ paid_by p w (length (frame p))) ⊎ (broke × IsBroken p (length (frame p)) w v) → v ≡ record u { out = frame answer ++ u.out } → record u { out = frame answer ++ u.out } ≡ done p w

@@ -9,3 +9,4 @@ pub mod Turns
 pub mod FirstPath
 pub mod Told
 pub mod Places
+pub mod Replied
