@@ -1,2 +1,4 @@
 pub mod ImageLemmas
 pub mod ProductLemmas
+pub mod AskingLemmas
+pub mod VariableLemmas

@@ -1,2 +1,3 @@
 pub mod HostWords
 pub mod Products
+pub mod Asking

@@ -1,5 +1,6 @@
 //! The top call of fbflash, and the in-process device that it rehearses an installation on.
 #![tactic(auto)]
 
+pub mod asking;
 pub mod host_words;
 pub mod product;
