@@ -15,6 +15,7 @@ use Rattle.dev_model.specs.declared.device.Variable.{Variable}
 use Rattle.dev_model.specs.Partitions.{has_slots, is_physical, is_logical, is_userspace}
 use Rattle.dev_model.specs.Variables.{Row, value, text_of, slotted_name, has_slot, plain_rows, device_rows, slot_rows, partition_rows, super_row, yes_or_no, with_slots_only}
 use Rattle.fb_frame.specs.Slots.{letter}
+use Rattle.fb_top.specs.Questions.{kind_question}
 use Rattle.dev_model.specs.Validity.{IsValid, is_variable, is_value, own_names}
 
 option_or-none : (o : Option (List ℕ)) → option_or o None ≡ o
@@ -107,10 +108,6 @@ pub download-size : (dev : Dev) → value dev (codes "max-download-size") ≡ So
 download-size dev =
     by-lists dev (codes "max-download-size") refl
         ∙ ap (λ o. option_or (option_or (option_or (option_or o (text_of (codes "max-download-size") (var-rows dev))) (text_of (codes "max-download-size") (flag-rows dev))) (text_of (codes "max-download-size") (physical-rows dev.physical))) (text_of (codes "max-download-size") (logical-rows dev.logical))) (own-size (has_slots dev) dev)
-
--- the variable that tells the kind of a partition
-abbrev pub kind_question : List ℕ → List ℕ
-kind_question name = codes "is-logical:" ++ name
 
 own-kind : (slotted : Bool) (dev : Dev) (o : Option (List ℕ)) (name : List ℕ) → dev.super_name ≡ o → text_of (kind_question name) (own-rows slotted dev) ≡ None
 unfolding own-rows

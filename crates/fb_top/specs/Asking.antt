@@ -14,6 +14,8 @@ use Rattle.wire_model.specs.FirstPath.{is_first_path}
 use Rattle.wire_model.specs.Told.{Idle, Receiving}
 use Rattle.wire_model.specs.Replied.{is_steady}
 use Rattle.dev_model.specs.Variables.{value}
+use Rattle.fb_top.specs.declared.asking.Told.{Told}
+use Rattle.fb_top.specs.declared.asking.Told.TheVariants as told
 use Rattle.fb_top.specs.declared.asking.AskFail.{AskFail}
 use Rattle.fb_top.specs.declared.asking.AskFail.TheVariants.{Link, Refused, Unknown}
 
@@ -64,6 +66,11 @@ pub record IsTold (name : List ℕ) (text : Option (List ℕ)) (w u : Wire) : Ty
 
 abbrev pub Tells : Option Peer → Option Peer → List ℕ → Option (List ℕ) → Type 0
 Tells a b name text = OnLink (IsTold name text) a b
+
+-- the text that was told, where there is one
+abbrev pub told_text : Told → Option (List ℕ)
+told_text (told.Text text) = Some text
+told_text (told.Refusal text) = None
 
 -- Why a command isn't carried out: the link is cut, the device refuses it with this text, or the
 -- device is none of this profile, which none is that is told.

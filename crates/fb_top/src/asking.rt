@@ -6,7 +6,7 @@ ghost use Rattle.fb_message.specs.ReplyText.{reply_of};
 ghost use Rattle.wire_model.specs.Places.{IsKept};
 ghost use Rattle.wire_model.specs.Replied.{is_steady};
 ghost use Rattle.wire_model.specs.Told.{Idle};
-ghost use Rattle.fb_top.specs.Asking.{Answered, ValidPeer, IsTaken, Why, IsCut, NoneRefuses, data_of, Behind, Tells};
+ghost use Rattle.fb_top.specs.Asking.{Answered, ValidPeer, IsTaken, Why, IsCut, NoneRefuses, data_of, Behind, Tells, told_text};
 
 use fb_link::host::{AskError, ask};
 use fb_link::port::Port;
@@ -24,6 +24,13 @@ pub enum AskFail {
     Refused(Line),
     /// The peer sent what no device of this profile sends; its bytes are kept.
     Unknown(Line),
+}
+
+/// What a device tells of a variable: its text, or with another text that there is no such variable.
+#[derive(Debug, Drop)]
+pub enum Told {
+    Text(Line),
+    Refusal(Line),
 }
 
 /// The first bytes of an answer, as they are kept for a person to see.
@@ -70,9 +77,9 @@ fn kept_reply(reply: &Reply) -> Line {
     kept(packet.bytes())
 }
 
-/// Asks for the text of a variable; None where the device has no such variable.
+/// Asks for the text of a variable.
 #[tactic(auto, using(crate::proofs::AskingLemmas::ask_variables))]
-pub fn ask_variable<P: Port>(port: &mut P, name: &[u8]) -> Result<Option<Line>, AskFail>
+pub fn ask_variable<P: Port>(port: &mut P, name: &[u8]) -> Result<Told, AskFail>
     ghost spare: { ℕ }
     requires up { IsTrue (P.up port.old) }
     requires idle { Idle (4104 + spare) (P.peer port.old) }
@@ -81,7 +88,7 @@ pub fn ask_variable<P: Port>(port: &mut P, name: &[u8]) -> Result<Option<Line>, 
     requires one { IsTrue (is_steady (GetVar name.now)) }
     requires short { length name.now ≤ 4089 }
     ensures up { OnOk result (IsTrue (P.up port.new)) }
-    ensures told { IfOk result (λ text. Tells (P.peer port.old) (P.peer port.new) name.now text) }
+    ensures told { IfOk result (λ told. Tells (P.peer port.old) (P.peer port.new) name.now (told_text told)) }
     ensures idle { OnOk result (Idle spare (P.peer port.new)) }
     ensures valid { OnOk result (ValidPeer (P.peer port.new)) }
     ensures why { IfErr result (λ e. Why (NoneRefuses (P.peer port.old)) (IsCut (P.faults port.old) (P.faults port.new) (P.ends port.old) (P.ends port.new)) (P.peer port.old) e) }
@@ -90,8 +97,8 @@ pub fn ask_variable<P: Port>(port: &mut P, name: &[u8]) -> Result<Option<Line>, 
     ensures ends { P.ends port.old ≤ P.ends port.new }
 {
     match tell(port, &Command::GetVar(name)) {
-        Ok(Reply::Okay(line)) => Ok(Some(line)),
-        Ok(Reply::Fail(_)) => Ok(None),
+        Ok(Reply::Okay(line)) => Ok(Told::Text(line)),
+        Ok(Reply::Fail(line)) => Ok(Told::Refusal(line)),
         Ok(other) => Err(AskFail::Unknown(kept_reply(&other))),
         Err(e) => Err(e),
     }

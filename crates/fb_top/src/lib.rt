@@ -3,4 +3,6 @@
 
 pub mod asking;
 pub mod host_words;
+pub mod plan;
 pub mod product;
+pub mod questions;

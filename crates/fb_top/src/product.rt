@@ -1,4 +1,4 @@
-ghost use Rattle.std.specs.Prelude.{◌≡◌, ℕ, ◌≤◌, ◌<◌, Option, Some, List, Ok, Err, length, map, IsTrue, OnOk, IfOk, IfErr, option_copied};
+ghost use Rattle.std.specs.Prelude.{◌≡◌, ℕ, ◌+◌, ◌++◌, ◌≤◌, ◌<◌, Option, Some, List, Ok, Err, length, take, map, IsTrue, OnOk, IfOk, IfErr, option_copied};
 ghost use Rattle.dev_model.specs.declared.cells.Cell.TheVariants.{Byte};
 ghost use Rattle.flash_plan.specs.Files.{IsFile};
 ghost use Rattle.fb_top.specs.Products.{requirements_file, tasks_file, image_file, flash_name, flash_task, is_task_name, behind_front, line_of, task_name, most_bytes, padded, image_flaw, IsRawImage, IsProduct, IsFlawed, SayRequirements, SayTask, SayImage, StopsAt, StopsRequirements, StopsTask, StopsImage, StopsProduct};
@@ -79,16 +79,32 @@ fn task_of(text: &[u8]) -> Result<Name, Flaw>
     }
 }
 
+/// Writes a text behind the first bytes of the buffer.
+#[tactic(auto, using(fb_message::proofs::PacketLemmas::packets))]
+fn add(bytes: &mut [u8; 64], at: usize, text: &[u8])
+    requires { at + length text.now ≤ 64 }
+    ensures { take (at + length text.now) bytes.new ≡ take at bytes.old ++ text.now }
+{
+    bytes[at..at + text.len()].copy_from_slice(text);
+}
+
+/// A word of two parts.
+pub(crate) fn joined(front: &[u8], rest: &[u8]) -> Word
+    requires some { 0 < length front.now }
+    requires short { length front.now + length rest.now ≤ 64 }
+    ensures { result ≡ front.now ++ rest.now }
+{
+    let mut bytes = [0; 64];
+    add(&mut bytes, 0, front);
+    add(&mut bytes, front.len(), rest);
+    Word::read(&bytes[..front.len() + rest.len()]).unwrap()
+}
+
 /// The file of a partition's image.
 fn image_file(name: &Name) -> Word
     ensures { result ≡ image_file name.now }
 {
-    let front = name.bytes();
-    let end = front.len() + 4;
-    let mut bytes = [0; 39];
-    bytes[..front.len()].copy_from_slice(front);
-    bytes[front.len()..end].copy_from_slice(b".img");
-    Word::read(&bytes[..end]).unwrap()
+    joined(name.bytes(), b".img")
 }
 
 /// A file of the product by its name, which has at most so many bytes.
