@@ -3,3 +3,6 @@ pub mod ProductLemmas
 pub mod AskingLemmas
 pub mod VariableLemmas
 pub mod QuestionLemmas
+pub mod FlashLemmas
+pub mod SizeLemmas
+pub mod RunLemmas

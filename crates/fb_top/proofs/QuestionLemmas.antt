@@ -7,6 +7,7 @@ use Rattle.std.proofs.lemmas.Bool.Decides.{nat_tests}
 use Rattle.fb_message.proofs.Words.{parts}
 use Rattle.wire_model.specs.Replied.{is_steady}
 use Rattle.std.proofs.lemmas.Option.{none-some}
+use Rattle.fb_frame.specs.Numbers.{size_text}
 use Rattle.fb_frame.specs.NameText.{is_name, is_name_byte, IsName}
 use Rattle.fb_message.specs.CommandText.{GetVar}
 use Rattle.dev_model.specs.declared.device.Dev.{Dev}
@@ -20,9 +21,9 @@ use Rattle.wire_model.specs.FirstPath.{is_first_question}
 use Rattle.wire_model.proofs.Lifted.{of-of, with-on}
 use Rattle.fb_top.specs.Asking.{ValidPeer, IsTaken, IsTold, Tells}
 use Rattle.fb_top.specs.Plans.{kind_of}
-use Rattle.fb_top.specs.Questions.{slots_read, kind_read, kind_question, Learns, LearnsSlots, LearnsKind}
+use Rattle.fb_top.specs.Questions.{slots_read, kind_read, kind_question, Learns, LearnsSlots, LearnsKind, LearnsMax}
 use Rattle.fb_top.proofs.AskingLemmas.{on-none}
-use Rattle.fb_top.proofs.VariableLemmas.{slot-count, partition-kind, kind_text}
+use Rattle.fb_top.proofs.VariableLemmas.{slot-count, download-size, partition-kind, kind_text}
 
 -- every port takes such a question
 pub IsTaken-question : (spare : ℕ) (a : Option Peer) (name : List ℕ) → IsTrue (is_first_question name) → Idle spare a → IsTaken a (GetVar name)
@@ -84,3 +85,29 @@ kind-asked name question n e =
     (n, refl, omega (arith, name-short name n, length-append (codes "is-logical:") name))
 
 pub ruleset questions = (IsTaken-question, LearnsSlots-told, untold-slots, LearnsKind-told, untold-kind)
+
+-- how much a valid device takes in one download
+most-told : (line : List ℕ) (r : Option ℕ) → ((n : ℕ) → 131072 ≤ n → n ≤ 268435456 → line ≡ size_text n → r ≡ Some n) → (dev : Dev) → IsValid dev → Some line ≡ value dev (codes "max-download-size") → r ≡ Some dev.max
+most-told line r read dev valid e =
+    let both = parts (nat_le 131072 dev.max) (nat_le dev.max 268435456) valid.download in
+    let low : 131072 ≤ dev.max = grind (arith, nat_tests, both.0) in
+    let high : dev.max ≤ 268435456 = grind (arith, nat_tests, both.1) in
+    let same : Some line ≡ Some (size_text dev.max) = e ∙ download-size dev in
+    read dev.max low high cc
+
+pub LearnsMax-told : (a b : Option Peer) (line : List ℕ) (most : ℕ) (r : Option ℕ) → ((n : ℕ) → 131072 ≤ n → n ≤ 268435456 → line ≡ size_text n → r ≡ Some n) → r ≡ Some most → ValidPeer a → Tells a b (codes "max-download-size") (Some line) → LearnsMax a b most
+LearnsMax-told a b line most r read e valid t =
+    with-on (λ w. IsValid w.device) (IsTold (codes "max-download-size") (Some line)) (Learns (λ dev. dev.max) most)
+    (λ w u v told. let s : Some most ≡ Some w.device.max = sym e ∙ most-told line r read w.device v told.tells in record { device = told.device; learns = cc }) a b valid t
+
+pub untold-max : (a b : Option Peer) (line : List ℕ) (r : Option ℕ) → ((n : ℕ) → 131072 ≤ n → n ≤ 268435456 → line ≡ size_text n → r ≡ Some n) → r ≡ None → ValidPeer a → Tells a b (codes "max-download-size") (Some line) → a ≡ None
+untold-max a b line r read e valid t =
+    on-none (λ w u. ⊥) (λ w u h. h) a b
+    (with-on (λ w. IsValid w.device) (IsTold (codes "max-download-size") (Some line)) (λ w u. ⊥)
+    (λ w u v told. none-some w.device.max (sym e ∙ most-told line r read w.device v told.tells)) a b valid t)
+
+pub unrefused-max : (a b : Option Peer) → Tells a b (codes "max-download-size") None → a ≡ None
+unrefused-max a b t =
+    on-none (IsTold (codes "max-download-size") None) (λ w u told. none-some (size_text w.device.max) (told.tells ∙ download-size w.device)) a b t
+
+pub ruleset sizes = (IsTaken-question, unrefused-max)

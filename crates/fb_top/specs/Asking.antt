@@ -83,6 +83,10 @@ Why Refuses Cut a (Unknown kept) = a ≡ None
 abbrev pub IsCut : ℕ → ℕ → ℕ → ℕ → Type 0
 IsCut faults faults_now ends ends_now = Rose faults faults_now ⊎ Rose ends ends_now
 
+-- nothing is refused
+abbrev pub NeverRefuses : Option Peer → List ℕ → Type 0
+NeverRefuses a text = ⊥
+
 -- no told device refuses
 abbrev pub NoneRefuses : Option Peer → List ℕ → Type 0
 NoneRefuses a text = a ≡ None

@@ -32,3 +32,7 @@ LearnsSlots a b slotted = OnLink (Learns has_slots slotted) a b
 -- the kind of its partition of this name
 abbrev pub LearnsKind : Option Peer → Option Peer → List ℕ → Option Bool → Type 0
 LearnsKind a b name kind = OnLink (Learns (λ dev. kind_of dev name) kind) a b
+
+-- how much the told device takes in one download
+abbrev pub LearnsMax : Option Peer → Option Peer → ℕ → Type 0
+LearnsMax a b most = OnLink (Learns (λ dev. dev.max) most) a b

@@ -6,7 +6,7 @@ ghost use Rattle.fb_message.specs.ReplyText.{reply_of};
 ghost use Rattle.wire_model.specs.Places.{IsKept};
 ghost use Rattle.wire_model.specs.Replied.{is_steady};
 ghost use Rattle.wire_model.specs.Told.{Idle};
-ghost use Rattle.fb_top.specs.Asking.{Answered, ValidPeer, IsTaken, Why, IsCut, NoneRefuses, data_of, Behind, Tells, told_text};
+ghost use Rattle.fb_top.specs.Asking.{Answered, ValidPeer, IsTaken, Why, IsCut, NeverRefuses, data_of, Behind, Tells, told_text};
 
 use fb_link::host::{AskError, ask};
 use fb_link::port::Port;
@@ -34,7 +34,7 @@ pub enum Told {
 }
 
 /// The first bytes of an answer, as they are kept for a person to see.
-fn kept(answer: &[u8]) -> Line {
+pub(crate) fn kept(answer: &[u8]) -> Line {
     let end = answer.len().min(252);
     Line::read(&answer[..end]).unwrap()
 }
@@ -51,7 +51,7 @@ pub fn tell<P: Port>(port: &mut P, command: &Command<'_>) -> Result<Reply, AskFa
     ensures up { OnOk result (IsTrue (P.up port.new)) }
     ensures answered { IfOk result (λ reply. Answered (P.faults port.old) (P.faults port.new) (P.peer port.old) (P.peer port.new) (command_value command.now) reply) }
     ensures behind { IfOk result (λ reply. Behind spare (command_value command.now) reply (P.peer port.new)) }
-    ensures why { IfErr result (λ e. Why (NoneRefuses (P.peer port.old)) (IsCut (P.faults port.old) (P.faults port.new) (P.ends port.old) (P.ends port.new)) (P.peer port.old) e) }
+    ensures why { IfErr result (λ e. Why (NeverRefuses (P.peer port.old)) (IsCut (P.faults port.old) (P.faults port.new) (P.ends port.old) (P.ends port.new)) (P.peer port.old) e) }
     ensures kept { IsKept (P.aimed port.old) (P.aimed port.new) (P.last port.old) (P.last port.new) (P.stands port.old) (P.stands port.new) }
     ensures later { P.faults port.old ≤ P.faults port.new }
     ensures ends { P.ends port.old ≤ P.ends port.new }
@@ -71,7 +71,7 @@ pub fn tell<P: Port>(port: &mut P, command: &Command<'_>) -> Result<Reply, AskFa
 }
 
 /// The bytes of a reply, as they are kept for a person to see.
-fn kept_reply(reply: &Reply) -> Line {
+pub(crate) fn kept_reply(reply: &Reply) -> Line {
     let mut packet = Packet::new();
     write_reply(reply, &mut packet);
     kept(packet.bytes())
@@ -91,7 +91,7 @@ pub fn ask_variable<P: Port>(port: &mut P, name: &[u8]) -> Result<Told, AskFail>
     ensures told { IfOk result (λ told. Tells (P.peer port.old) (P.peer port.new) name.now (told_text told)) }
     ensures idle { OnOk result (Idle spare (P.peer port.new)) }
     ensures valid { OnOk result (ValidPeer (P.peer port.new)) }
-    ensures why { IfErr result (λ e. Why (NoneRefuses (P.peer port.old)) (IsCut (P.faults port.old) (P.faults port.new) (P.ends port.old) (P.ends port.new)) (P.peer port.old) e) }
+    ensures why { IfErr result (λ e. Why (NeverRefuses (P.peer port.old)) (IsCut (P.faults port.old) (P.faults port.new) (P.ends port.old) (P.ends port.new)) (P.peer port.old) e) }
     ensures kept { IsKept (P.aimed port.old) (P.aimed port.new) (P.last port.old) (P.last port.new) (P.stands port.old) (P.stands port.new) }
     ensures later { P.faults port.old ≤ P.faults port.new }
     ensures ends { P.ends port.old ≤ P.ends port.new }

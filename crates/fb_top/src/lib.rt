@@ -2,7 +2,10 @@
 #![tactic(auto)]
 
 pub mod asking;
+pub mod flashing;
 pub mod host_words;
 pub mod plan;
 pub mod product;
 pub mod questions;
+pub mod run;
+pub mod size;

@@ -1,0 +1,71 @@
+-- What a device tells as a size is read again.
+use Rattle.std.proofs.Common.{◌≡◌, ℕ, zero, suc, ◌+◌, ◌*◌, ◌/◌, ◌%◌, ◌<◌, ◌≤◌, ◌^◌, Bool, true, false, cond, List, [], ◌∷◌, ◌++◌, length, drop, Option, Some, None, refl, sym, ap, ◌∙◌, subst, arith, nat_lt, nat_eq, ◌==◌, length-append}
+use Rattle.std.specs.Prelude.{codes, slice_index}
+use Rattle.std.specs.Char.{digit_value}
+use Rattle.std.specs.Str.{IsAscii, IsUtf8}
+use Rattle.std.specs.Str.Parse.{AllDigits, IsNumeral, digits_value, without_leading_plus}
+use Rattle.std.specs.Fmt.{digits, digits_onto, digit_glyph}
+use Rattle.std.proofs.lemmas.Bool.Decides.{nat_tests}
+use Rattle.std.proofs.lemmas.Option.{none-some}
+use Rattle.std.proofs.lemmas.Str.{IsUtf8-from_ascii}
+use Rattle.std.proofs.lemmas.Fmt.{digits_is_IsNumeral}
+use Rattle.fb_frame.specs.Numbers.{size_text}
+use Rattle.fb_top.specs.SizeText.{hex_digits}
+
+-- hexadecimal digits are ASCII, and none is a plus
+digit-ascii : (c : ℕ) → digit_value c < 16 → c < 128
+digit-ascii c h = grind (arith, nat_tests)
+
+digits-ascii : (ds : List ℕ) → AllDigits 16 ds → (i : ℕ) → slice_index ds i < 128
+digits-ascii [] h i = omega arith
+digits-ascii (c ∷ ds) h zero = digit-ascii c h.0
+digits-ascii (c ∷ ds) h (suc i) = digits-ascii ds h.1 i
+
+pub IsUtf8-numeral : (ds : List ℕ) → IsNumeral 16 ds → IsUtf8 ds
+IsUtf8-numeral ds h = IsUtf8-from_ascii ds (digits-ascii ds h.1)
+
+no-plus : (c : ℕ) → digit_value c < 16 → (c == 43) ≡ false
+no-plus c h = grind (arith, nat_tests)
+
+pub plain-numeral : (ds : List ℕ) → IsNumeral 16 ds → without_leading_plus ds ≡ ds
+plain-numeral [] h = refl
+plain-numeral (c ∷ ds) h = ap (λ b. drop (cond b 1 0) (c ∷ ds)) (no-plus c h.1.0)
+
+pub ruleset numerals = (IsUtf8-numeral, plain-numeral)
+
+-- a number of 64 bits has at most 16 digits
+top : ℕ → ℕ
+top zero = 1
+top (suc k) = 16 * top k
+
+onto-step : (b : Bool) (f k n : ℕ) (acc : List ℕ) → 0 < k → length (digits_onto f 16 true (n / 16) (digit_glyph true (n % 16) ∷ acc)) ≤ k + length acc → length (cond b (digit_glyph true (n % 16) ∷ acc) (digits_onto f 16 true (n / 16) (digit_glyph true (n % 16) ∷ acc))) ≤ k + length acc
+onto-step true f k n acc h g = omega arith
+onto-step false f k n acc h g = g
+
+onto-short : (f k n : ℕ) (acc : List ℕ) → n < top (suc k) → length (digits_onto f 16 true n acc) ≤ suc k + length acc
+unfolding top
+onto-short zero k n acc h = omega arith
+onto-short (suc f) zero n acc h =
+    let e : (n / 16 == 0) ≡ true = grind (arith, nat_tests) in
+    subst (λ b. length (cond b (digit_glyph true (n % 16) ∷ acc) (digits_onto f 16 true (n / 16) (digit_glyph true (n % 16) ∷ acc))) ≤ 1 + length acc) (sym e) (omega arith)
+onto-short (suc f) (suc k) n acc h =
+    let ih = onto-short f k (n / 16) (digit_glyph true (n % 16) ∷ acc) (omega (arith, h)) in
+    onto-step (n / 16 == 0) f (suc (suc k)) n acc (omega arith) (omega (arith, ih))
+
+digits-short : (n : ℕ) → n < 2 ^ 64 → length (digits 16 true n) ≤ 16
+unfolding digits top
+digits-short n h = onto-short 64 15 n [] h
+
+-- a number that was read of the digits of a size
+pub hex-size : (text ds : List ℕ) (r : Option ℕ) (n : ℕ) → n ≤ 268435456 → Some ds ≡ hex_digits text → (IsNumeral 16 ds → length ds ≤ 16 → digits_value 16 ds < 2 ^ 64 → r ≡ Some (digits_value 16 ds)) → text ≡ size_text n → r ≡ Some n
+hex-size text ds r n h found read e =
+    let same : ds ≡ digits 16 true n = (let k : Some ds ≡ Some (digits 16 true n) = found ∙ ap hex_digits e in cc) in
+    let numeral = digits_is_IsNumeral 16 true (omega arith) (omega arith) n (omega (arith, h)) in
+    let worth : digits_value 16 ds ≡ n = ap (digits_value 16) same ∙ numeral.1 in
+    read (subst (IsNumeral 16) (sym same) numeral.0) (omega (arith, ap length same, digits-short n (omega (arith, h)))) (omega (arith, worth)) ∙ ap Some worth
+
+-- each size begins with `0x`
+pub no-hex : (text : List ℕ) (r : Option ℕ) (n : ℕ) → None ≡ hex_digits text → text ≡ size_text n → r ≡ Some n
+no-hex text r n found e = absurd (none-some (digits 16 true n) (found ∙ ap hex_digits e))
+
+pub ruleset sizes = (hex-size, no-hex)
