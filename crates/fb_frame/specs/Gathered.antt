@@ -1,8 +1,8 @@
 -- What the events of a deframer tell of the frames in a stream.
-use Rattle.std.specs.Prelude.{◌≡◌, ◌≢◌, ℕ, ◌+◌, ◌^◌, ◌<◌, List, [], ◌∷◌, ◌++◌, length, map, flat_map, get_or, Option, Some, None}
+use Rattle.std.specs.Prelude.{◌≡◌, ℕ, ◌+◌, ◌^◌, ◌<◌, List, [], ◌∷◌, ◌++◌, length, map, flat_map, All, get_or, Option, Some, None}
 use Rattle.fb_frame.specs.declared.deframer.Event.{Event}
 use Rattle.fb_frame.specs.declared.deframer.Event.TheVariants.{More, Length, Bytes, End}
-use Rattle.fb_frame.specs.Framing.{head, frame, Cut}
+use Rattle.fb_frame.specs.Framing.{head, frame, HasFrame, Cut}
 use Rattle.fb_frame.specs.Stages.{Stage, Head, Left}
 
 -- the lengths that were told, the payloads that ended, and the bytes of one that didn't
@@ -52,7 +52,7 @@ IsStage (Left count) part = length part + count < 2 ^ 64
 pub record Reads (bytes : List ℕ) (told : Gathered) (stage : Stage) : Type 0 where
   pub frames : bytes ≡ flat_map frame told.whole ++ half stage told.part
   pub lengths : told.lengths ≡ map (length {A = ℕ}) told.whole ++ half_length stage told.part
-  pub fits : (i : ℕ) → length (get_or told.whole i []) < 2 ^ 64
+  pub fits : All HasFrame told.whole
   pub stands : IsStage stage told.part
 
 -- the same of what a listener tells

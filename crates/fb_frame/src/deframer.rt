@@ -1,5 +1,5 @@
-ghost use Rattle.std.specs.Prelude.{◌≡◌, [], ◌≢◌};
-ghost use Rattle.fb_frame.specs.Stages.{Feeds, Head, Left};
+ghost use Rattle.std.specs.Prelude.{◌≡◌, ◌≤◌, [], length};
+ghost use Rattle.fb_frame.specs.Stages.{Feeds, Head};
 
 use std::marker::Model;
 
@@ -54,7 +54,8 @@ impl Deframer {
     /// Takes bytes of the piece's front, and answers how many and what they are. The caller feeds
     /// what remains of the piece next. A frame of length 0 gives `Length(0)` and then `End`.
     pub fn feed(&mut self, piece: &[u8]) -> (usize, Event)
-        ensures { Feeds self.old piece.now result.0 result.1 self.new }
+        ensures feeds { Feeds self.old piece.now result.0 result.1 self.new }
+        ensures within { result.0 ≤ length piece.now }
     {
         if self.have < 8 {
             let taken = piece.len().min(8 - self.have);
