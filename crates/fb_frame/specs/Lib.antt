@@ -11,3 +11,5 @@ pub mod Causes
 pub mod Laws
 pub mod Sinks
 pub mod MemoryText
+pub mod Stages
+pub mod Gathered
