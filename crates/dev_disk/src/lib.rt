@@ -4,5 +4,6 @@
 
 pub mod disk;
 mod failures;
+pub mod file;
 pub mod memory;
 mod memory_files;
