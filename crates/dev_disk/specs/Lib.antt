@@ -5,3 +5,4 @@ pub mod Failing
 pub mod MemoryLaws
 pub mod Memory
 pub mod RealFiles
+pub mod Twins

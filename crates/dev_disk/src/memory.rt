@@ -10,9 +10,11 @@ use crate::disk::{CreateError, Disk, DiskFault};
 use crate::failures::Failures;
 use crate::memory_files::{MemoryFile, bytes_at, find_place, overwrite_at, put};
 use std::alloc::{AllocError, Global};
+use thiserror::Error;
 
 /// Memory ran out.
-#[derive(Debug, Drop)]
+#[derive(Debug, Drop, Error)]
+#[error("out of memory")]
 pub struct Memory;
 
 /// Files in memory. It tells all of them, and fails at the calls whose numbers it was made with; such
@@ -184,4 +186,47 @@ impl Disk for MemoryDisk {
     }
 
     ghost agrees = { λ disk. agree disk.files.items disk.opened disk.opened_is_there };
+}
+
+#[cfg(test)]
+mod tests {
+    use super::*;
+    use std::test::Fail;
+
+    #[test]
+    fn keeps_files_by_their_paths(rt: HostRuntime) -> Result<(), Fail> {
+        let mut disk = MemoryDisk::new(rt.alloc(), Vec::new(rt.alloc()))?;
+        disk.add(rt.alloc(), "a", b"old")?;
+        disk.add(rt.alloc(), "b", b"other")?;
+        disk.add(rt.alloc(), "a", b"12345")?;
+        assert_eq!(rt; disk.open("c")?, None);
+        assert_eq!(rt; disk.open("a")?, Some(5));
+        disk.write_at(1, b"xy")?;
+        disk.sync()?;
+        let mut three = [0; 3];
+        disk.read_at(2, &mut three)?;
+        assert_eq!(rt; three.as_slice(), b"y45".as_slice());
+        disk.create(rt.alloc(), "c", 2)?;
+        disk.write_at(1, b"z")?;
+        assert!(rt; disk.file("a") == Some(b"1xy45".as_slice()));
+        assert!(rt; disk.file("b") == Some(b"other".as_slice()));
+        assert!(rt; disk.file("c") == Some(b"\0z".as_slice()));
+        assert!(rt; disk.file("d").is_none());
+        Ok(())
+    }
+
+    #[test]
+    fn fails_at_the_given_calls(rt: HostRuntime) -> Result<(), Fail> {
+        let mut disk = MemoryDisk::new(rt.alloc(), vec![in rt.alloc(); 2, 4]?)?;
+        disk.add(rt.alloc(), "a", b"abc")?;
+        assert_eq!(rt; disk.open("a")?, Some(3));
+        assert!(rt; disk.write_at(0, b"x").is_err());
+        disk.sync()?;
+        let made = disk.create(rt.alloc(), "a", 9);
+        assert!(rt; matches!(made, Err(CreateError::Disk)));
+        disk.sync()?;
+        assert!(rt; disk.file("a") == Some(b"abc".as_slice()));
+        assert_eq!(rt; disk.failures.faults, 2);
+        Ok(())
+    }
 }
