@@ -33,6 +33,12 @@ memory_faults disk = disk.failures.faults
 abbrev pub must_fail : MemoryDisk → Bool
 must_fail disk = fails_next disk.failures
 
+-- no call was counted
+pub record SameCounts (old new : MemoryDisk) : Type 0 where
+  pub same_fails : memory_fails new ≡ memory_fails old
+  pub same_calls : memory_calls new ≡ memory_calls old
+  pub same_faults : memory_faults new ≡ memory_faults old
+
 -- one more call was counted, and one more fault where it failed
 pub record Counts (old new : MemoryDisk) : Type 0 where
   pub same_fails : memory_fails new ≡ memory_fails old

@@ -39,7 +39,7 @@ fn make_zeros(alloc: Global, size: usize) -> Result<Vec<u8>, AllocError>
 }
 
 impl MemoryDisk {
-    ghost use Rattle.dev_disk.specs.Memory.{memory_files, memory_path, memory_length, memory_fails, memory_calls, memory_faults};
+    ghost use Rattle.dev_disk.specs.Memory.{memory_files, memory_path, memory_length, memory_fails, memory_calls, memory_faults, SameCounts};
 
     /// A disk without files. `fails` has the numbers, from 1, of the calls that fail.
     pub fn new(alloc: Global, fails: Vec<u64>) -> Result<MemoryDisk, Memory>
@@ -66,7 +66,7 @@ impl MemoryDisk {
         ensures others { (other : List ℕ) → other ≢ path.now → memory_files self.new other ≡ memory_files self.old other }
         ensures same { OnErr result (memory_files self.new ≡ memory_files self.old) }
         ensures path { memory_path self.new ≡ memory_path self.old }
-        ensures failures { self.new.failures ≡ self.old.failures }
+        ensures counts { SameCounts self.old self.new }
     {
         let path = Vec::from_slice(alloc, path.as_bytes()).map_err(|_| Memory)?;
         let bytes = Vec::from_slice(alloc, bytes).map_err(|_| Memory)?;
