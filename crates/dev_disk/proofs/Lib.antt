@@ -1,3 +1,4 @@
 pub mod FileLists
 pub mod Writes
 pub mod OpenFiles
+pub mod TwinLemmas

@@ -4,3 +4,5 @@ pub mod MemoryFiles
 pub mod Failing
 pub mod MemoryLaws
 pub mod Memory
+pub mod RealFiles
+pub mod Twins

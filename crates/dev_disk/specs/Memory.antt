@@ -1,7 +1,8 @@
 -- What a disk in memory tells.
-use Rattle.std.specs.Prelude.{ℕ, List, Option, option_map}
+use Rattle.std.specs.Prelude.{◌≡◌, ℕ, Bool, List, Option, option_map, if◌then◌else◌}
 use Rattle.dev_disk.specs.declared.memory.MemoryDisk.{MemoryDisk}
 use Rattle.dev_disk.specs.Files.{Files}
+use Rattle.dev_disk.specs.Failing.{fails_next, next_number}
 use Rattle.dev_disk.specs.MemoryFiles.{file_of, path_at, length_at}
 
 -- the bytes of each file
@@ -27,3 +28,25 @@ memory_calls disk = disk.failures.calls
 -- how many of them failed
 abbrev pub memory_faults : MemoryDisk → ℕ
 memory_faults disk = disk.failures.faults
+
+-- the next call is one of those that fail
+abbrev pub must_fail : MemoryDisk → Bool
+must_fail disk = fails_next disk.failures
+
+-- no call was counted
+pub record SameCounts (old new : MemoryDisk) : Type 0 where
+  pub same_fails : memory_fails new ≡ memory_fails old
+  pub same_calls : memory_calls new ≡ memory_calls old
+  pub same_faults : memory_faults new ≡ memory_faults old
+
+-- one more call was counted, and one more fault where it failed
+pub record Counts (old new : MemoryDisk) : Type 0 where
+  pub same_fails : memory_fails new ≡ memory_fails old
+  pub one_call : memory_calls new ≡ next_number (memory_calls old)
+  pub one_fault : memory_faults new ≡ (if must_fail old then next_number (memory_faults old) else memory_faults old)
+
+-- the files, the open path and its length are as they were
+pub record KeepsFiles (old new : MemoryDisk) : Type 0 where
+  pub same_files : memory_files new ≡ memory_files old
+  pub same_path : memory_path new ≡ memory_path old
+  pub same_length : memory_length new ≡ memory_length old

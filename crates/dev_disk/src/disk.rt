@@ -5,15 +5,19 @@ ghost use Rattle.dev_disk.specs.Files.{Files, content, IsInside, IsRead, Wrote, 
 ghost use Rattle.dev_disk.specs.Calls.{HasLength, IsOpen, HasZeros, OpensLength, OpensPath, StaysOrShuts, Agrees};
 
 use std::alloc::Global;
+use thiserror::Error;
 
 /// The outside refused a call on a disk.
-#[derive(Debug, Drop)]
+#[derive(Debug, Drop, Error)]
+#[error("the disk failed")]
 pub struct DiskFault;
 
 /// Why a file wasn't made.
-#[derive(Debug, Drop)]
+#[derive(Debug, Drop, Error)]
 pub enum CreateError {
+    #[error("the disk failed")]
     Disk,
+    #[error("out of memory")]
     Memory,
 }
 

@@ -5,7 +5,7 @@ ghost use Rattle.dev_disk.specs.Failing.{fails_next, counted};
 use crate::disk::DiskFault;
 
 /// Which calls fail, by their numbers from 1, and how many calls and faults there were.
-#[derive(Debug, Drop)]
+#[derive(Drop)]
 pub struct Failures {
     pub fails: Vec<u64>,
     pub calls: u64,

@@ -2,7 +2,10 @@
 //! copies of small blocks.
 #![tactic(auto)]
 
+pub mod digest;
 pub mod disk;
 mod failures;
+pub mod file;
 pub mod memory;
 mod memory_files;
+pub mod twin;

@@ -1,20 +1,25 @@
-ghost use Rattle.std.specs.Prelude.{◌≡◌, ◌≢◌, ℕ, List, length, Option, Some, None, option_map, OnOk, OnErr, IfOk};
+ghost use Rattle.std.specs.Prelude.{◌≡◌, ◌≢◌, ℕ, List, length, Option, Some, None, option_map, OnOk, OnErr, IfOk, IsSome, IsTrue, ◌↔◌, ◌≤◌, is_err};
 ghost use Rattle.std.specs.Option.{ForSome};
-ghost use Rattle.dev_disk.specs.Files.{zeros};
+ghost use Rattle.std.specs.Result.{IsErrOf};
+ghost use Rattle.fb_frame.specs.Causes.{HasCause, Rose};
+ghost use Rattle.dev_disk.specs.Calls.{OpensLength, OpensPath};
+ghost use Rattle.dev_disk.specs.Files.{zeros, content, IsInside, IsRead, Wrote, WroteInPart, KeepsUnopened};
 ghost use Rattle.dev_disk.specs.MemoryFiles.{IsFirst};
 
 use crate::disk::{CreateError, Disk, DiskFault};
 use crate::failures::Failures;
 use crate::memory_files::{MemoryFile, bytes_at, find_place, overwrite_at, put};
 use std::alloc::{AllocError, Global};
+use thiserror::Error;
 
 /// Memory ran out.
-#[derive(Debug, Drop)]
+#[derive(Debug, Drop, Error)]
+#[error("out of memory")]
 pub struct Memory;
 
 /// Files in memory. It tells all of them, and fails at the calls whose numbers it was made with; such
 /// a call changes nothing.
-#[derive(Debug, Drop)]
+#[derive(Drop)]
 pub struct MemoryDisk {
     files: Vec<MemoryFile>,
     opened: Option<usize>,
@@ -34,7 +39,7 @@ fn make_zeros(alloc: Global, size: usize) -> Result<Vec<u8>, AllocError>
 }
 
 impl MemoryDisk {
-    ghost use Rattle.dev_disk.specs.Memory.{memory_files, memory_path, memory_length, memory_fails, memory_calls, memory_faults};
+    ghost use Rattle.dev_disk.specs.Memory.{memory_files, memory_path, memory_length, memory_fails, memory_calls, memory_faults, SameCounts};
 
     /// A disk without files. `fails` has the numbers, from 1, of the calls that fail.
     pub fn new(alloc: Global, fails: Vec<u64>) -> Result<MemoryDisk, Memory>
@@ -61,7 +66,7 @@ impl MemoryDisk {
         ensures others { (other : List ℕ) → other ≢ path.now → memory_files self.new other ≡ memory_files self.old other }
         ensures same { OnErr result (memory_files self.new ≡ memory_files self.old) }
         ensures path { memory_path self.new ≡ memory_path self.old }
-        ensures failures { self.new.failures ≡ self.old.failures }
+        ensures counts { SameCounts self.old self.new }
     {
         let path = Vec::from_slice(alloc, path.as_bytes()).map_err(|_| Memory)?;
         let bytes = Vec::from_slice(alloc, bytes).map_err(|_| Memory)?;
@@ -81,7 +86,7 @@ impl MemoryDisk {
 }
 
 impl Disk for MemoryDisk {
-    ghost use Rattle.dev_disk.specs.Memory.{memory_files, memory_path, memory_length, memory_faults};
+    ghost use Rattle.dev_disk.specs.Memory.{memory_files, memory_path, memory_length, memory_faults, must_fail, Counts, KeepsFiles};
     ghost use Rattle.dev_disk.specs.MemoryLaws.{agree};
 
     ghost open_length = { memory_length };
@@ -92,7 +97,16 @@ impl Disk for MemoryDisk {
 
     ghost faults = { memory_faults };
 
-    fn open(&mut self, path: &str) -> Result<Option<u64>, DiskFault> {
+    fn open(&mut self, path: &str) -> Result<Option<u64>, DiskFault>
+        ensures fails { is_err result ≡ must_fail self.old }
+        ensures counts { Counts self.old self.new }
+        ensures kept { OnErr result (KeepsFiles self.old self.new) }
+        ensures found { IfOk result (λ size. size ≡ option_map length (memory_files self.old path.now)) }
+        ensures length { IfOk result (λ size. OpensLength (memory_length self.old) (memory_length self.new) size) }
+        ensures path { IfOk result (λ size. OpensPath (Some (memory_files self.old)) (memory_path self.old) (memory_path self.new) path.now size) }
+        ensures files { memory_files self.new ≡ memory_files self.old }
+        ensures cause { HasCause (memory_faults self.old) (memory_faults self.new) result }
+    {
         self.failures.pass()?;
         let Some(place) = find_place(&self.files, path.as_bytes()) else {
             return Ok(None);
@@ -102,7 +116,17 @@ impl Disk for MemoryDisk {
         Ok(Some(size))
     }
 
-    fn create(&mut self, alloc: Global, path: &str, size: u64) -> Result<(), CreateError> {
+    fn create(&mut self, alloc: Global, path: &str, size: u64) -> Result<(), CreateError>
+        ensures fails { IsErrOf result CreateError.Disk ↔ IsTrue (must_fail self.old) }
+        ensures counts { Counts self.old self.new }
+        ensures kept { OnErr result (KeepsFiles self.old self.new) }
+        ensures zeros { OnOk result (memory_files self.new path.now ≡ Some (zeros size)) }
+        ensures length { OnOk result (memory_length self.new ≡ Some size) }
+        ensures path { OnOk result (memory_path self.new ≡ Some path.now) }
+        ensures others { (other : List ℕ) → other ≢ path.now → memory_files self.new other ≡ memory_files self.old other }
+        ensures disk { IsErrOf result CreateError.Disk → Rose (memory_faults self.old) (memory_faults self.new) }
+        ensures later { memory_faults self.old ≤ memory_faults self.new }
+    {
         let Ok(()) = self.failures.pass() else {
             return Err(CreateError::Disk);
         };
@@ -113,7 +137,14 @@ impl Disk for MemoryDisk {
         Ok(())
     }
 
-    fn read_at(&mut self, at: u64, buf: &mut [u8]) -> Result<(), DiskFault> {
+    fn read_at(&mut self, at: u64, buf: &mut [u8]) -> Result<(), DiskFault>
+        requires inside { IsInside (memory_length self.old) at (length buf.old) }
+        ensures fails { is_err result ≡ must_fail self.old }
+        ensures counts { Counts self.old self.new }
+        ensures kept { KeepsFiles self.old self.new }
+        ensures read { OnOk result (IsRead (content (Some (memory_files self.old)) (memory_path self.old)) at buf.new) }
+        ensures cause { HasCause (memory_faults self.old) (memory_faults self.new) result }
+    {
         self.failures.pass()?;
         let Some(place) = self.opened else {
             unreachable!()
@@ -124,7 +155,18 @@ impl Disk for MemoryDisk {
         Ok(())
     }
 
-    fn write_at(&mut self, at: u64, bytes: &[u8]) -> Result<(), DiskFault> {
+    fn write_at(&mut self, at: u64, bytes: &[u8]) -> Result<(), DiskFault>
+        requires inside { IsInside (memory_length self.old) at (length bytes.now) }
+        ensures fails { is_err result ≡ must_fail self.old }
+        ensures counts { Counts self.old self.new }
+        ensures kept { OnErr result (KeepsFiles self.old self.new) }
+        ensures wrote { OnOk result (Wrote (content (Some (memory_files self.old)) (memory_path self.old)) (content (Some (memory_files self.new)) (memory_path self.new)) at bytes.now) }
+        ensures in_part { OnErr result (WroteInPart (content (Some (memory_files self.old)) (memory_path self.old)) (content (Some (memory_files self.new)) (memory_path self.new)) at (length bytes.now)) }
+        ensures length { memory_length self.new ≡ memory_length self.old }
+        ensures path { memory_path self.new ≡ memory_path self.old }
+        ensures others { KeepsUnopened (Some (memory_files self.old)) (Some (memory_files self.new)) (memory_path self.old) }
+        ensures cause { HasCause (memory_faults self.old) (memory_faults self.new) result }
+    {
         self.failures.pass()?;
         let Some(place) = self.opened else {
             unreachable!()
@@ -133,9 +175,58 @@ impl Disk for MemoryDisk {
         Ok(())
     }
 
-    fn sync(&mut self) -> Result<(), DiskFault> {
+    fn sync(&mut self) -> Result<(), DiskFault>
+        requires open { IsSome (memory_length self.old) }
+        ensures fails { is_err result ≡ must_fail self.old }
+        ensures counts { Counts self.old self.new }
+        ensures kept { KeepsFiles self.old self.new }
+        ensures cause { HasCause (memory_faults self.old) (memory_faults self.new) result }
+    {
         self.failures.pass()
     }
 
     ghost agrees = { λ disk. agree disk.files.items disk.opened disk.opened_is_there };
+}
+
+#[cfg(test)]
+mod tests {
+    use super::*;
+    use std::test::Fail;
+
+    #[test]
+    fn keeps_files_by_their_paths(rt: HostRuntime) -> Result<(), Fail> {
+        let mut disk = MemoryDisk::new(rt.alloc(), Vec::new(rt.alloc()))?;
+        disk.add(rt.alloc(), "a", b"old")?;
+        disk.add(rt.alloc(), "b", b"other")?;
+        disk.add(rt.alloc(), "a", b"12345")?;
+        assert_eq!(rt; disk.open("c")?, None);
+        assert_eq!(rt; disk.open("a")?, Some(5));
+        disk.write_at(1, b"xy")?;
+        disk.sync()?;
+        let mut three = [0; 3];
+        disk.read_at(2, &mut three)?;
+        assert_eq!(rt; three.as_slice(), b"y45".as_slice());
+        disk.create(rt.alloc(), "c", 2)?;
+        disk.write_at(1, b"z")?;
+        assert!(rt; disk.file("a") == Some(b"1xy45".as_slice()));
+        assert!(rt; disk.file("b") == Some(b"other".as_slice()));
+        assert!(rt; disk.file("c") == Some(b"\0z".as_slice()));
+        assert!(rt; disk.file("d").is_none());
+        Ok(())
+    }
+
+    #[test]
+    fn fails_at_the_given_calls(rt: HostRuntime) -> Result<(), Fail> {
+        let mut disk = MemoryDisk::new(rt.alloc(), vec![in rt.alloc(); 2, 4]?)?;
+        disk.add(rt.alloc(), "a", b"abc")?;
+        assert_eq!(rt; disk.open("a")?, Some(3));
+        assert!(rt; disk.write_at(0, b"x").is_err());
+        disk.sync()?;
+        let made = disk.create(rt.alloc(), "a", 9);
+        assert!(rt; matches!(made, Err(CreateError::Disk)));
+        disk.sync()?;
+        assert!(rt; disk.file("a") == Some(b"abc".as_slice()));
+        assert_eq!(rt; disk.failures.faults, 2);
+        Ok(())
+    }
 }

@@ -5,7 +5,7 @@ ghost use Rattle.dev_disk.specs.MemoryFiles.{file_of, place_of, path_at, length_
 use std::alloc::AllocError;
 
 /// A file of a disk in memory.
-#[derive(Debug, Drop)]
+#[derive(Drop)]
 pub struct MemoryFile {
     pub path: Vec<u8>,
     pub bytes: Vec<u8>,

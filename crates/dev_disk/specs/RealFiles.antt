@@ -1,0 +1,11 @@
+-- What a disk of real files tells.
+use Rattle.std.specs.Prelude.{ℕ, Option, option_map}
+use Rattle.dev_disk.specs.declared.file.FileDisk.{FileDisk}
+
+-- the length of the open file
+abbrev pub file_length : {R : Type 0} → FileDisk R → Option ℕ
+file_length disk = option_map (λ opened. opened.size) disk.opened
+
+-- how many errors there were
+abbrev pub file_faults : {R : Type 0} → FileDisk R → ℕ
+file_faults disk = disk.faults
