@@ -1,7 +1,7 @@
 -- The first part between bytes of a value, and the first word.
-use Rattle.std.proofs.Common.{◌≡◌, ◌≢◌, ℕ, ◌+◌, ◌-◌, ◌≤◌, ◌<◌, Bool, true, false, List, [], ◌∷◌, ◌++◌, length, take, drop, get_or, refl, sym, ◌∙◌, ap, subst, arith, Option, Some, None, cond, inl, inr, suc, zero, length-drop, add-zero}
-use Rattle.std.specs.Prelude.{◌==◌, ◌⊎◌, nat_lt, filter, position, All}
-use Rattle.std.specs.List.{prefix_len, position_or_len, slice_split, before_first, after_first}
+use Rattle.std.proofs.Common.{◌≡◌, ℕ, ◌+◌, ◌-◌, ◌≤◌, ◌<◌, Bool, true, false, List, [], ◌∷◌, length, take, drop, get_or, refl, sym, ◌∙◌, ap, arith, Some, None, cond, inl, inr, suc, zero, length-drop, add-zero}
+use Rattle.std.specs.Prelude.{◌==◌, nat_lt, filter, position}
+use Rattle.std.specs.List.{prefix_len, position_or_len, slice_split}
 use Rattle.std.proofs.lemmas.Bool.{cases_Bool}
 use Rattle.std.proofs.lemmas.Bool.Decides.{nat_tests}
 use Rattle.std.proofs.lemmas.List.{length-take-le, get_or-drop, take_all, drop_all, nil_from_length}

@@ -1,9 +1,8 @@
 -- Reading a list of values from the front.
 use Rattle.std.proofs.Common.{◌≡◌, ℕ, List, [], ◌∷◌, ◌++◌, Option, Some, None, refl, sym, ◌∙◌, ap, append_assoc, append-nil}
-use Rattle.std.specs.Option.{option_map_or}
 use Rattle.fb_frame.specs.NameText.{word_of}
-use Rattle.product_info.specs.Blanks.{parts, trimmed}
-use Rattle.product_info.specs.RequirementText.{value_then, values_in, values_of}
+use Rattle.product_info.specs.Blanks.{trimmed}
+use Rattle.product_info.specs.RequirementText.{value_then, values_in}
 
 -- these values, and then the others
 abbrev pub values_behind : List (List ℕ) → Option (List (List ℕ)) → Option (List (List ℕ))

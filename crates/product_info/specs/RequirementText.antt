@@ -1,13 +1,12 @@
 -- The lines of android-info.txt (AOSP product files).
-use Rattle.std.specs.Prelude.{◌≡◌, ℕ, ◌==◌, ◌||◌, ◌&&◌, nat_eq, not, nat_le, Bool, true, false, List, [], ◌∷◌, length, drop, Option, Some, None, if◌then◌else◌, codes}
+use Rattle.std.specs.Prelude.{ℕ, ◌==◌, ◌||◌, ◌&&◌, nat_eq, not, Bool, true, false, List, [], ◌∷◌, drop, Option, Some, None, if◌then◌else◌, codes}
 use Rattle.std.specs.List.{list_all, starts_with}
 use Rattle.std.specs.Str.{bytes_eq}
 use Rattle.fb_frame.specs.NameText.{is_name, is_name_byte, word_of}
-use Rattle.product_info.specs.declared.requirement.ReqKind.{ReqKind}
 use Rattle.product_info.specs.declared.requirement.ReqKind.TheVariants.{Require, Reject, Exists}
 use Rattle.product_info.specs.declared.requirement.Requirement.{Requirement}
 use Rattle.product_info.specs.declared.info.InfoKind.TheVariants.{BadLine}
-use Rattle.product_info.specs.Blanks.{trimmed, trim_front, parts, cut_at, cut_blank, lines}
+use Rattle.product_info.specs.Blanks.{trimmed, parts, cut_at, cut_blank, lines}
 use Rattle.product_info.specs.Reading.{Reading, read_lines}
 
 -- a byte of `[A-Za-z0-9_.:-]`

@@ -1,8 +1,8 @@
 -- The lines of fastboot-info.txt (AOSP product files).
-use Rattle.std.specs.Prelude.{ℕ, ◌+◌, ◌==◌, ◌&&◌, ◌||◌, not, nat_le, Bool, true, false, List, [], ◌∷◌, ◌++◌, Option, Some, None, if◌then◌else◌, codes, slice_index}
+use Rattle.std.specs.Prelude.{ℕ, ◌+◌, ◌==◌, ◌&&◌, not, nat_le, Bool, true, false, List, [], ◌∷◌, ◌++◌, Option, Some, None, if◌then◌else◌, codes, slice_index}
 use Rattle.std.specs.List.{list_all}
 use Rattle.std.specs.Str.{bytes_eq}
-use Rattle.fb_frame.specs.NameText.{is_name, is_name_byte, name_of, word_of}
+use Rattle.fb_frame.specs.NameText.{is_name_byte, name_of, word_of}
 use Rattle.fb_frame.specs.Numbers.{read_dec}
 use Rattle.fb_message.specs.declared.command.BootTarget.{BootTarget}
 use Rattle.fb_message.specs.declared.command.BootTarget.TheVariants.{System, Bootloader, Fastboot, Recovery}

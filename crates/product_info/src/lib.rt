@@ -4,6 +4,9 @@
 mod blanks;
 pub mod info;
 mod lines;
+pub mod meeting;
 pub mod requirement;
 mod requirement_text;
+pub mod requirements;
 pub mod task;
+mod task_text;
