@@ -1,3 +1,4 @@
 pub mod BlankLemmas
 pub mod ValueLemmas
 pub mod ReadingLemmas
+pub mod TaskLemmas

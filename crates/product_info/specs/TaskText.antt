@@ -1,5 +1,5 @@
 -- The lines of fastboot-info.txt (AOSP product files).
-use Rattle.std.specs.Prelude.{ℕ, ◌+◌, ◌==◌, ◌&&◌, not, nat_le, Bool, true, false, List, [], ◌∷◌, ◌++◌, Option, Some, None, if◌then◌else◌, codes, slice_index}
+use Rattle.std.specs.Prelude.{◌≡◌, ℕ, ◌+◌, ◌<◌, ◌≤◌, ◌==◌, IsTrue, IsFalse, ◌&&◌, not, nat_le, Bool, true, false, List, [], ◌∷◌, ◌++◌, Option, Some, None, if◌then◌else◌, codes, slice_index}
 use Rattle.std.specs.List.{list_all}
 use Rattle.std.specs.Str.{bytes_eq}
 use Rattle.fb_frame.specs.NameText.{is_name_byte, name_of, word_of}
@@ -9,6 +9,7 @@ use Rattle.fb_message.specs.declared.command.BootTarget.TheVariants.{System, Boo
 use Rattle.product_info.specs.declared.task.Action.{Action}
 use Rattle.product_info.specs.declared.task.Action.TheVariants.{Flash, Reboot, UpdateSuper, Erase}
 use Rattle.product_info.specs.declared.task.Task.{Task}
+use Rattle.product_info.specs.declared.info.InfoKind.{InfoKind}
 use Rattle.product_info.specs.declared.info.InfoKind.TheVariants.{NoVersion, BadVersion, BadLine}
 use Rattle.product_info.specs.Blanks.{words, lines}
 use Rattle.product_info.specs.Reading.{Reading, Line, Skipped, Says, Wrong, Fails, line_says, read_lines}
@@ -98,20 +99,24 @@ abbrev pub action_of : List (List ℕ) → Option Action
 action_of [] = None
 action_of (word ∷ rest) = action_by word rest
 
--- the task of an action
-abbrev pub task : ℕ → Bool → Option Action → Option Task
-task number if_wipe (Some action) = Some (record { line = number; if_wipe = if_wipe; action = action })
-task number if_wipe None = None
+-- an action, and whether it is for a run that wipes alone
+abbrev pub when : Bool → Option Action → Option (Bool × Action)
+when if_wipe (Some action) = Some (if_wipe, action)
+when if_wipe None = None
 
--- the task of these words
-abbrev pub task_words : ℕ → List (List ℕ) → Option Task
-task_words number [] = None
-task_words number (word ∷ rest) =
-    if bytes_eq word (codes "if-wipe") then task number true (action_of rest) else task number false (action_by word rest)
+-- what these words want done
+abbrev pub order_of : List (List ℕ) → Option (Bool × Action)
+order_of [] = None
+order_of (word ∷ rest) = if bytes_eq word (codes "if-wipe") then when true (action_of rest) else when false (action_by word rest)
+
+-- the task with this number
+abbrev pub numbered : ℕ → Option (Bool × Action) → Option Task
+numbered number (Some order) = Some (record { line = number; if_wipe = order.0; action = order.1 })
+numbered number None = None
 
 -- the task of a line
 unfoldable pub task_of : ℕ → List ℕ → Option Task
-task_of number line = task_words number (words line)
+task_of number line = numbered number (order_of (words line))
 
 -- the version that these words tell
 abbrev pub version_words : List (List ℕ) → Option ℕ
@@ -144,3 +149,15 @@ tasks_from number (line ∷ rest) =
 -- the tasks of fastboot-info.txt, at most 256
 unfoldable pub tasks : List ℕ → Reading Task
 tasks text = tasks_from 1 (lines text)
+
+-- a line tells a version of at most 1, or is skipped
+abbrev pub IsFirst : Line ℕ → Bool → Type 0
+IsFirst Skipped found = IsFalse found
+IsFirst (Says version) found = IsTrue found × (version ≤ 1)
+IsFirst (Wrong kind) found = ⊥
+
+-- a line that is to tell the version is bad in this way
+abbrev pub IsBadFirst : Line ℕ → InfoKind → Type 0
+IsBadFirst Skipped kind = ⊥
+IsBadFirst (Says version) kind = (1 < version) × (kind ≡ BadVersion)
+IsBadFirst (Wrong found) kind = kind ≡ found

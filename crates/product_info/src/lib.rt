@@ -10,3 +10,4 @@ mod requirement_text;
 pub mod requirements;
 pub mod task;
 mod task_text;
+pub mod tasks;

@@ -15,6 +15,13 @@ pub(crate) enum LineError {
     Memory,
 }
 
+/// The error of a bad line.
+pub(crate) fn bad(line: u32, kind: InfoKind) -> InfoError
+    ensures { result ≡ InfoError.Bad line kind }
+{
+    InfoError::Bad { line, kind }
+}
+
 /// An empty line, or a comment.
 pub(crate) fn is_skipped(text: &[u8]) -> bool
     ensures { result ≡ is_skipped text.now }
@@ -34,10 +41,7 @@ pub(crate) fn add<T: Drop>(items: &mut Items<T>, line: u32, item: T) -> Result<(
     ensures kind { (number : _) (kind : _) → IsErrOf result (InfoError.Bad number kind) → kind ≡ InfoKind.TooMany }
 {
     if items.len() >= MOST {
-        return Err(InfoError::Bad {
-            line,
-            kind: InfoKind::TooMany,
-        });
+        return Err(bad(line, InfoKind::TooMany));
     }
     items.push(item).map_err(|_| InfoError::Memory)?;
     Ok(())

@@ -5,7 +5,7 @@ ghost use Rattle.product_info.specs.RequirementText.{requirement_of, requirement
 
 use crate::blanks::{content, first_part, is_text};
 use crate::info::{InfoError, InfoKind};
-use crate::lines::{LineError, add, is_skipped};
+use crate::lines::{LineError, add, bad, is_skipped};
 use crate::requirement::Requirements;
 use crate::requirement_text::read_requirement;
 use std::alloc::Global;
@@ -26,17 +26,11 @@ fn read_line(
         return Ok(());
     }
     if !is_text(text) {
-        return Err(InfoError::Bad {
-            line: number,
-            kind: InfoKind::NotText,
-        });
+        return Err(bad(number, InfoKind::NotText));
     }
     match read_requirement(alloc, number, text) {
         Ok(requirement) => add(list, number, requirement),
-        Err(LineError::Bad) => Err(InfoError::Bad {
-            line: number,
-            kind: InfoKind::BadLine,
-        }),
+        Err(LineError::Bad) => Err(bad(number, InfoKind::BadLine)),
         Err(LineError::Memory) => Err(InfoError::Memory),
     }
 }

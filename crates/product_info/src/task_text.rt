@@ -2,10 +2,10 @@ ghost use Rattle.std.specs.Prelude.{◌≡◌, ◌==◌, ◌&&◌, ◌++◌, [],
 ghost use Rattle.std.specs.List.{list_all};
 ghost use Rattle.fb_frame.specs.NameText.{is_name_byte};
 ghost use Rattle.product_info.specs.Blanks.{words};
-ghost use Rattle.product_info.specs.TaskText.{is_plain, part_of, file_of, image_file, flash, flash_named, flash_of, target_of, reboot_of, update_of, erase_of, action_by, action_of, task, task_words, task_of, version_words, version_of};
+ghost use Rattle.product_info.specs.TaskText.{is_plain, part_of, file_of, image_file, flash, flash_named, flash_of, target_of, reboot_of, update_of, erase_of, action_by, action_of, order_of, version_of};
 
 use crate::blanks::first_word;
-use crate::task::{Action, Task};
+use crate::task::Action;
 use fb_frame::name::Name;
 use fb_frame::number::read_dec;
 use fb_frame::word::Word;
@@ -187,23 +187,18 @@ fn action_of(text: &[u8]) -> Option<Action>
     action_by(word, rest)
 }
 
-/// The task of a line.
-#[tactic(auto, unfolding(crate::specs::TaskText::task_of))]
-pub(crate) fn read_task(line: u32, text: &[u8]) -> Option<Task>
-    ensures { result ≡ task_of line text.now }
+/// What a line wants done, and whether for a run that wipes alone.
+pub(crate) fn read_task(text: &[u8]) -> Option<(bool, Action)>
+    ensures { result ≡ order_of (words text.now) }
 {
     let (word, rest) = first_word(text)?;
-    let if_wipe = word == b"if-wipe".as_slice();
-    let action = if if_wipe {
-        action_of(rest)?
+    if word == b"if-wipe".as_slice() {
+        let action = action_of(rest)?;
+        Some((true, action))
     } else {
-        action_by(word, rest)?
-    };
-    Some(Task {
-        line,
-        if_wipe,
-        action,
-    })
+        let action = action_by(word, rest)?;
+        Some((false, action))
+    }
 }
 
 /// The version that a line tells.
