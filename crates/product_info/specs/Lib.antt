@@ -3,3 +3,4 @@ pub mod Reading
 pub mod RequirementText
 pub mod Meeting
 pub mod TaskText
+pub mod Rows

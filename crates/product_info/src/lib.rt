@@ -1,6 +1,8 @@
 //! The two info files of a product: what it requires of a device, and the tasks that flash it.
 #![tactic(auto)]
 
+ghost use Rattle.product_info.specs.Rows.{Rows};
+
 mod blanks;
 pub mod info;
 mod lines;
@@ -11,3 +13,11 @@ pub mod requirements;
 pub mod task;
 mod task_text;
 pub mod tasks;
+
+/// Worked examples of the grammars.
+pub fn rows()
+    ensures { Rows }
+{}
+
+#[cfg(test)]
+mod tests;
