@@ -6,3 +6,5 @@ pub mod folder_dir;
 mod folder_path;
 pub mod memory_dir;
 pub mod read;
+#[cfg(test)]
+mod tests;

@@ -1,0 +1,99 @@
+use crate::dir::{DirFault, EnterError, ProductDir};
+use crate::folder_dir::FolderDir;
+use crate::memory_dir::{DirFile, MemoryDir};
+use crate::read::{ReadError, read_file};
+use std::alloc::{AllocError, Global};
+use std::fs;
+use std::test::Fail;
+
+fn file(alloc: Global, name: &str, bytes: &[u8]) -> Result<DirFile, AllocError> {
+    Ok(DirFile {
+        name: name.to_string(alloc)?,
+        bytes: bytes.to_vec(alloc)?,
+    })
+}
+
+fn product(alloc: Global, fails: &[u64]) -> Result<MemoryDir, Fail> {
+    let mut files = Vec::new(alloc);
+    files.push(file(alloc, "boot.img", b"12345")?)?;
+    files.push(file(alloc, "empty.img", b"")?)?;
+    files.push(file(alloc, "boot.img", b"another")?)?;
+    Ok(MemoryDir::new(alloc, "out", files, fails.to_vec(alloc)?)?)
+}
+
+/// The length of a whole file, or what was answered in its place.
+fn outcome<D: ProductDir>(alloc: Global, dir: &mut D, path: &str, name: &str) -> Result<usize, u8> {
+    match dir.enter(alloc, path) {
+        Ok(true) => {}
+        Ok(false) => return Err(b'n'),
+        Err(EnterError::Dir) => return Err(b'e'),
+        Err(EnterError::Memory) => return Err(b'm'),
+    }
+    match read_file(alloc, dir, name.as_bytes(), 5) {
+        Ok(bytes) => Ok(bytes.len()),
+        Err(ReadError::Absent) => Err(b'a'),
+        Err(ReadError::TooLong) => Err(b'l'),
+        Err(ReadError::Dir) => Err(b'd'),
+        Err(ReadError::Memory) => Err(b'm'),
+    }
+}
+
+#[test]
+fn reads_files_in_memory(rt: HostRuntime) -> Result<(), Fail> {
+    let alloc = rt.alloc();
+    let rows: [(&[u64], &str, &str, Result<usize, u8>); 8] = [
+        (&[], "out", "boot.img", Ok(5)),
+        (&[], "out", "empty.img", Ok(0)),
+        (&[], "out", "radio.img", Err(b'a')),
+        (&[], "other", "boot.img", Err(b'n')),
+        (&[1], "out", "boot.img", Err(b'e')),
+        (&[2], "out", "boot.img", Err(b'd')),
+        (&[3], "out", "boot.img", Err(b'd')),
+        (&[4], "out", "boot.img", Ok(5)),
+    ];
+    for (fails, path, name, want) in rows {
+        let mut dir = product(alloc, fails)?;
+        assert_eq!(rt;
+            outcome(alloc, &mut &mut dir, path, name),
+            want,
+            "{path}/{name}"
+        );
+    }
+    let mut dir = product(alloc, &[])?;
+    assert!(rt; dir.enter(alloc, "out")?);
+    let bytes = read_file(alloc, &mut dir, b"boot.img", 7)?;
+    assert_eq!(rt; bytes.as_slice(), b"12345".as_slice());
+    assert_eq!(rt; dir.longest(), 5);
+    Ok(())
+}
+
+#[test]
+fn reads_files_of_a_folder(rt: HostRuntime) -> Result<(), Fail> {
+    let alloc = rt.alloc();
+    fs::create_dir_all(&rt, "folder/sub")?;
+    fs::write(&rt, "folder/boot.img", b"12345")?;
+    fs::write(&rt, "folder/long.img", b"123456")?;
+    let long = ["x"; 65].concat(alloc)?;
+    let rows = [
+        ("folder", "boot.img", Ok(5)),
+        ("folder", "long.img", Err(b'l')),
+        ("folder", "radio.img", Err(b'a')),
+        ("folder", "sub", Err(b'd')),
+        ("folder", long.as_str(), Err(b'd')),
+        ("absent", "boot.img", Err(b'e')),
+        ("folder/boot.img", "boot.img", Err(b'e')),
+    ];
+    for (path, name, want) in rows {
+        let mut dir = FolderDir::new(&rt);
+        assert_eq!(rt; outcome(alloc, &mut dir, path, name), want, "{path}/{name}");
+    }
+    let mut dir = FolderDir::new(&rt);
+    assert!(rt; dir.enter(alloc, "folder")?);
+    let mut buf = [0; 3];
+    assert_eq!(rt; dir.read_at(b"boot.img", 1, &mut buf)?, 3);
+    assert_eq!(rt; buf.as_slice(), b"234".as_slice());
+    assert!(rt; matches!(dir.read_at(b"boot.img", 5, &mut buf), Err(DirFault)));
+    assert!(rt; matches!(dir.size(b"\xff"), Err(DirFault)));
+    fs::remove_dir_all(&rt, "folder")?;
+    Ok(())
+}

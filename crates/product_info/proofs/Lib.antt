@@ -1,0 +1,4 @@
+pub mod BlankLemmas
+pub mod ValueLemmas
+pub mod ReadingLemmas
+pub mod TaskLemmas

@@ -1,0 +1,6 @@
+pub mod Blanks
+pub mod Reading
+pub mod RequirementText
+pub mod Meeting
+pub mod TaskText
+pub mod Rows
