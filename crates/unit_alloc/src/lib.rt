@@ -1,0 +1,9 @@
+//! Who owns which unit of super: for each logical partition, a part, the list of its units in the
+//! order in which they were handed out.
+#![tactic(auto)]
+
+pub mod errors;
+pub mod plain;
+mod sum;
+
+pub use errors::{Memory, NoSpace, Owned};
