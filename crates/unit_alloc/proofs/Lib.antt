@@ -5,3 +5,4 @@ pub mod GrownLemmas
 pub mod KeptLemmas
 pub mod LogLemmas
 pub mod FrontLemmas
+pub mod MarksLemmas

@@ -4,6 +4,7 @@
 
 pub mod errors;
 pub mod plain;
+mod states;
 mod sum;
 
 pub use errors::{Memory, NoSpace, Owned};
