@@ -1,12 +1,12 @@
 -- What a change of one part's list leaves: how often a unit stands in the lists, and how many units there are.
-use Rattle.std.proofs.Common.{◌≡◌, ℕ, ◌+◌, ◌*◌, ◌<◌, true, false, cond, eqb, List, [], ◌∷◌, ◌++◌, length, get_or, set, take, drop, replicate, sum_by, refl, sym, ap, ◌∙◌, inl, inr, arith, append_assoc}
+use Rattle.std.proofs.Common.{◌≡◌, ℕ, ◌+◌, ◌*◌, ◌<◌, ◌≤◌, true, false, cond, eqb, List, [], ◌∷◌, ◌++◌, length, get_or, set, take, drop, replicate, sum_by, refl, sym, ap, ◌∙◌, inl, inr, arith, append_assoc}
 use Rattle.std.proofs.lemmas.List.{get_or-set_same, get_or-set_other, set-set}
-use Rattle.std.proofs.lemmas.List.Sums.{sum_by-set}
+use Rattle.std.proofs.lemmas.List.Sums.{sum_by-set, get_or-le-sum_by}
 use Rattle.std.proofs.lemmas.List.Folds.{sum_by-replicate}
 use Rattle.std.proofs.lemmas.Bool.{cases_eq}
 use Rattle.std.proofs.lemmas.Bool.Decides.{nat_tests}
-use Rattle.unit_alloc.specs.Owning.{Owning, times_in, times, OneOwner, free_units, units_of, handed, kept, with_units}
-use Rattle.unit_alloc.proofs.TimesLemmas.{times_in-nil, times_in-cons, times_in-append, times_in-take-drop, times-set}
+use Rattle.unit_alloc.specs.Owning.{Owning, times_in, times, OneOwner, free_units, units_of, handed, kept, with_units, unowned}
+use Rattle.unit_alloc.proofs.TimesLemmas.{times_in-nil, times_in-cons, times_in-append, times_in-take-drop, times-set, times-replicate}
 use Rattle.unit_alloc.proofs.FreeLemmas.{total, free_units-lowest}
 
 pub times-handed : (u : ℕ) (m : Owning) (p : ℕ) (l : List ℕ) → p < length m.parts → times u (handed m p l).parts ≡ times u m.parts + times_in u l
@@ -76,3 +76,15 @@ units_of-with_units p q m l h = elim (cases_eq p q) [
   | inr ne ↦ let t : eqb p q ≡ false = grind (arith, nat_tests) in
       get_or-set_other m.parts p q l [] (λ e. ne (sym e)) ∙ ap (λ b. cond b l (units_of m q)) (sym t)
 ]
+
+-- no part has more units than all
+pub length-le-total : (parts : List (List ℕ)) (p : ℕ) → p < length parts → length (get_or parts p []) ≤ total parts
+unfolding total
+length-le-total parts p h = get_or-le-sum_by (length {A = ℕ}) parts p [] h
+
+-- no part has a unit
+pub OneOwner-unowned : (units parts : ℕ) → OneOwner (unowned units parts)
+OneOwner-unowned units parts = record {
+  once = λ u. let e = times-replicate u parts in omega arith;
+  within = λ u le. times-replicate u parts;
+}

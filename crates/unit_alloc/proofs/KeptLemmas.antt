@@ -38,3 +38,9 @@ kept-none m p k e =
     ap (λ l. with_units m p (take k l)) e
     ∙ ap (λ l. with_units m p l) (take_all k [] (omega arith) ∙ sym e)
     ∙ ap (λ (l : List (List ℕ)). let n : Owning = record m { parts = l } in n) (set-get_or m.parts p [])
+
+-- a part that keeps all of its units
+pub kept-all : (m : Owning) (p k : ℕ) → length (units_of m p) ≤ k → kept m p k ≡ m
+kept-all m p k h =
+    ap (λ l. with_units m p l) (take_all k (units_of m p) h)
+    ∙ ap (λ (l : List (List ℕ)). let n : Owning = record m { parts = l } in n) (set-get_or m.parts p [])

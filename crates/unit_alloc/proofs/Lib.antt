@@ -6,3 +6,7 @@ pub mod KeptLemmas
 pub mod LogLemmas
 pub mod FrontLemmas
 pub mod MarksLemmas
+pub mod LinkedLemmas
+pub mod ChainedLemmas
+pub mod AppendLemmas
+pub mod CutLemmas

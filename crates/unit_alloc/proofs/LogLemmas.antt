@@ -11,7 +11,7 @@ use Rattle.unit_alloc.specs.Owning.{Owning, times, OneOwner, units_of, handed, u
 use Rattle.unit_alloc.specs.Log.{entered, replayed, given, IsLog}
 use Rattle.unit_alloc.proofs.TimesLemmas.{times-replicate}
 use Rattle.unit_alloc.proofs.FreeLemmas.{total, length-free_units}
-use Rattle.unit_alloc.proofs.HandedLemmas.{times-handed_one, OneOwner-handed, units_of-with_units, total-set, total-replicate}
+use Rattle.unit_alloc.proofs.HandedLemmas.{times-handed_one, OneOwner-handed, units_of-with_units, total-set, total-replicate, OneOwner-unowned}
 
 -- what a look-up past the end gives
 abbrev pub no_entry : Entry
@@ -141,12 +141,6 @@ IsLog-push units parts p x es log hp hx free =
       parted = All-push (λ (e : Entry). e.part < parts) es e log.parted hp;
       one = subst OneOwner (sym (replayed_push units parts es e)) (OneOwner-handed (replayed units parts es) p x (omega arith) log.one (omega arith) free);
     }
-
-OneOwner-unowned : (units parts : ℕ) → OneOwner (unowned units parts)
-OneOwner-unowned units parts = record {
-  once = λ u. let e = times-replicate u parts in omega arith;
-  within = λ u le. times-replicate u parts;
-}
 
 pub IsLog-none : (units parts : ℕ) → IsLog units parts []
 unfolding replayed

@@ -1,6 +1,6 @@
 -- One bit of the words, set and cleared, and the free units that the bits mark.
-use Rattle.std.proofs.Common.{◌≡◌, ℕ, zero, suc, ◌+◌, ◌-◌, ◌*◌, ◌/◌, ◌%◌, ◌^◌, ◌<◌, ◌≤◌, ◌≢◌, Bool, true, false, cond, eqb, ltb, not, ◌&&◌, ◌||◌, bit_and, bit_or, List, Option, Some, None, is_none, IsSome, [], ◌∷◌, length, get_or, set, replicate, count_by, refl, sym, ap, subst, ◌∙◌, inl, inr, arith, w64, length-set}
-use Rattle.std.specs.Int.{bit_at, bit_not, trailing_zeros}
+use Rattle.std.proofs.Common.{◌≡◌, ℕ, suc, ◌+◌, ◌-◌, ◌*◌, ◌/◌, ◌%◌, ◌^◌, ◌<◌, ◌≤◌, ◌≢◌, Bool, true, false, cond, eqb, ltb, not, ◌&&◌, ◌||◌, bit_and, bit_or, List, Option, Some, None, is_none, IsSome, [], ◌∷◌, length, get_or, set, replicate, count_by, refl, sym, ap, subst, ◌∙◌, inl, inr, arith, w64, length-set}
+use Rattle.std.specs.Int.{bit_at, trailing_zeros}
 use Rattle.std.proofs.lemmas.List.{get_or-set_same, get_or-set_other, get_or_past, get_or-replicate, length-replicate}
 use Rattle.std.proofs.lemmas.List.Sums.{sum_by-set, sum_by-cons, count_by-le-length}
 use Rattle.std.proofs.lemmas.Nat.Bits.{bit_at_set_same, bit_at_set_other, bit_at_clear_same, bit_at_clear_other, bit_at-zero, bit_at-trailing_zeros}
@@ -34,19 +34,19 @@ is_marked-mark words u v h =
     elim (cases_eq (v / 64) (u / 64)) [
       | inl e ↦ elim (cases_eq (v % 64) (u % 64)) [
         | inl r ↦
-          let t : eqb v u ≡ true = let s = same_unit u v e r in grind (arith, nat_tests) in
-          let b : bit_at x (v % 64) ≡ 1 = ap (bit_at x) r ∙ bit_at_set_same w64 w (u % 64) (omega arith) in
-          ap (λ k. eqb k 1) (bit_written words u v x h e ∙ b) ∙ ap (λ k. k || eqb (bit_at (get_or words (v / 64) 0) (v % 64)) 1) (sym t)
+            let t : eqb v u ≡ true = let s = same_unit u v e r in grind (arith, nat_tests) in
+            let b : bit_at x (v % 64) ≡ 1 = ap (bit_at x) r ∙ bit_at_set_same w64 w (u % 64) (omega arith) in
+            ap (λ k. eqb k 1) (bit_written words u v x h e ∙ b) ∙ ap (λ k. k || eqb (bit_at (get_or words (v / 64) 0) (v % 64)) 1) (sym t)
         | inr r ↦
-          let t : eqb v u ≡ false = grind (arith, nat_tests, ap (λ k. k % 64)) in
-          let b : bit_at x (v % 64) ≡ bit_at w (v % 64) = bit_at_set_other w64 w (u % 64) (omega arith) (v % 64) r in
-          ap (λ k. eqb k 1) (bit_written words u v x h e ∙ b ∙ ap (λ k. bit_at (get_or words k 0) (v % 64)) (sym e))
-          ∙ ap (λ k. k || eqb (bit_at (get_or words (v / 64) 0) (v % 64)) 1) (sym t)
+            let t : eqb v u ≡ false = grind (arith, nat_tests, ap (λ k. k % 64)) in
+            let b : bit_at x (v % 64) ≡ bit_at w (v % 64) = bit_at_set_other w64 w (u % 64) (omega arith) (v % 64) r in
+            ap (λ k. eqb k 1) (bit_written words u v x h e ∙ b ∙ ap (λ k. bit_at (get_or words k 0) (v % 64)) (sym e))
+            ∙ ap (λ k. k || eqb (bit_at (get_or words (v / 64) 0) (v % 64)) 1) (sym t)
       ]
       | inr ne ↦
-        let t : eqb v u ≡ false = other_unit u v ne in
-        ap (λ k. eqb (bit_at k (v % 64)) 1) (get_or-set_other words (u / 64) (v / 64) x 0 ne)
-        ∙ ap (λ k. k || eqb (bit_at (get_or words (v / 64) 0) (v % 64)) 1) (sym t)
+          let t : eqb v u ≡ false = other_unit u v ne in
+          ap (λ k. eqb (bit_at k (v % 64)) 1) (get_or-set_other words (u / 64) (v / 64) x 0 ne)
+          ∙ ap (λ k. k || eqb (bit_at (get_or words (v / 64) 0) (v % 64)) 1) (sym t)
     ]
 
 pub is_marked-unmark : (words : List ℕ) (u v : ℕ) → u < 64 * length words →
@@ -58,19 +58,19 @@ is_marked-unmark words u v h =
     elim (cases_eq (v / 64) (u / 64)) [
       | inl e ↦ elim (cases_eq (v % 64) (u % 64)) [
         | inl r ↦
-          let t : eqb v u ≡ true = let s = same_unit u v e r in grind (arith, nat_tests) in
-          let b : bit_at x (v % 64) ≡ 0 = ap (bit_at x) r ∙ bit_at_clear_same w64 w (u % 64) (omega arith) in
-          ap (λ k. eqb k 1) (bit_written words u v x h e ∙ b) ∙ ap (λ k. not k && eqb (bit_at (get_or words (v / 64) 0) (v % 64)) 1) (sym t)
+            let t : eqb v u ≡ true = let s = same_unit u v e r in grind (arith, nat_tests) in
+            let b : bit_at x (v % 64) ≡ 0 = ap (bit_at x) r ∙ bit_at_clear_same w64 w (u % 64) (omega arith) in
+            ap (λ k. eqb k 1) (bit_written words u v x h e ∙ b) ∙ ap (λ k. not k && eqb (bit_at (get_or words (v / 64) 0) (v % 64)) 1) (sym t)
         | inr r ↦
-          let t : eqb v u ≡ false = grind (arith, nat_tests, ap (λ k. k % 64)) in
-          let b : bit_at x (v % 64) ≡ bit_at w (v % 64) = bit_at_clear_other w64 w (u % 64) (omega arith) (v % 64) (omega arith) r in
-          ap (λ k. eqb k 1) (bit_written words u v x h e ∙ b ∙ ap (λ k. bit_at (get_or words k 0) (v % 64)) (sym e))
-          ∙ ap (λ k. not k && eqb (bit_at (get_or words (v / 64) 0) (v % 64)) 1) (sym t)
+            let t : eqb v u ≡ false = grind (arith, nat_tests, ap (λ k. k % 64)) in
+            let b : bit_at x (v % 64) ≡ bit_at w (v % 64) = bit_at_clear_other w64 w (u % 64) (omega arith) (v % 64) (omega arith) r in
+            ap (λ k. eqb k 1) (bit_written words u v x h e ∙ b ∙ ap (λ k. bit_at (get_or words k 0) (v % 64)) (sym e))
+            ∙ ap (λ k. not k && eqb (bit_at (get_or words (v / 64) 0) (v % 64)) 1) (sym t)
       ]
       | inr ne ↦
-        let t : eqb v u ≡ false = other_unit u v ne in
-        ap (λ k. eqb (bit_at k (v % 64)) 1) (get_or-set_other words (u / 64) (v / 64) x 0 ne)
-        ∙ ap (λ k. not k && eqb (bit_at (get_or words (v / 64) 0) (v % 64)) 1) (sym t)
+          let t : eqb v u ≡ false = other_unit u v ne in
+          ap (λ k. eqb (bit_at k (v % 64)) 1) (get_or-set_other words (u / 64) (v / 64) x 0 ne)
+          ∙ ap (λ k. not k && eqb (bit_at (get_or words (v / 64) 0) (v % 64)) 1) (sym t)
     ]
 
 -- no bit of words of zeros is set
@@ -87,17 +87,17 @@ is_free-set owners u v o h =
     let n = length-set owners u o in
     elim (cases_eq v u) [
       | inl e ↦
-        let t : eqb v u ≡ true = grind (arith, nat_tests) in
-        let l : ltb v (length (set owners u o)) ≡ true = grind (arith, nat_tests) in
-        ap (λ b. b && is_none (get_or (set owners u o) v None)) l
-        ∙ ap (λ k. is_none (get_or (set owners u o) k None)) e
-        ∙ ap is_none (get_or-set_same owners u o None h)
-        ∙ ap (λ b. cond b (is_none o) (is_free owners v)) (sym t)
+          let t : eqb v u ≡ true = grind (arith, nat_tests) in
+          let l : ltb v (length (set owners u o)) ≡ true = grind (arith, nat_tests) in
+          ap (λ b. b && is_none (get_or (set owners u o) v None)) l
+          ∙ ap (λ k. is_none (get_or (set owners u o) k None)) e
+          ∙ ap is_none (get_or-set_same owners u o None h)
+          ∙ ap (λ b. cond b (is_none o) (is_free owners v)) (sym t)
       | inr ne ↦
-        let t : eqb v u ≡ false = grind (arith, nat_tests) in
-        ap (λ k. ltb v k && is_none (get_or (set owners u o) v None)) n
-        ∙ ap (λ k. ltb v (length owners) && is_none k) (get_or-set_other owners u v o None ne)
-        ∙ ap (λ b. cond b (is_none o) (is_free owners v)) (sym t)
+          let t : eqb v u ≡ false = grind (arith, nat_tests) in
+          ap (λ k. ltb v k && is_none (get_or (set owners u o) v None)) n
+          ∙ ap (λ k. ltb v (length owners) && is_none k) (get_or-set_other owners u v o None ne)
+          ∙ ap (λ b. cond b (is_none o) (is_free owners v)) (sym t)
     ]
 
 -- how many are free after an owner is written
@@ -151,8 +151,8 @@ AreMarked-give owners words new free u p m h long marks =
     let e : ◌≡◌ {A = ℕ} (cond (is_none (get_or owners u None)) 1 0) 1 = ap (λ (b : Bool). cond {A = ℕ} b 1 0) w.1 in
     record {
       marks = λ v. marks v ∙ ap (λ b. not (eqb v u) && b) (m.marks v)
-        ∙ elim (eqb v u) as (λ b. (not b && is_free owners v) ≡ cond b false (is_free owners v)) [ true ↦ refl | false ↦ refl ]
-        ∙ sym (is_free-set owners u v (Some p) w.0);
+          ∙ elim (eqb v u) as (λ b. (not b && is_free owners v) ≡ cond b false (is_free owners v)) [ true ↦ refl | false ↦ refl ]
+          ∙ sym (is_free-set owners u v (Some p) w.0);
       long = omega (arith, m.long);
       small = omega (arith, m.small);
       counted = omega (arith, m.counted);
@@ -168,8 +168,8 @@ AreMarked-take_back owners words new free u m h long marks =
     let e : ◌≡◌ {A = ℕ} (cond (is_none (get_or owners u None)) 1 0) 0 = ap (λ (b : Bool). cond {A = ℕ} b 1 0) w.1 in
     record {
       marks = λ v. marks v ∙ ap (λ b. eqb v u || b) (m.marks v)
-        ∙ elim (eqb v u) as (λ b. (b || is_free owners v) ≡ cond b true (is_free owners v)) [ true ↦ refl | false ↦ refl ]
-        ∙ sym (is_free-set owners u v None w.0);
+          ∙ elim (eqb v u) as (λ b. (b || is_free owners v) ≡ cond b true (is_free owners v)) [ true ↦ refl | false ↦ refl ]
+          ∙ sym (is_free-set owners u v None w.0);
       long = omega (arith, m.long);
       small = omega (arith, m.small);
       counted = omega (arith, m.counted);
@@ -186,7 +186,7 @@ free_count-none (o ∷ owners) h =
     omega arith
 
 -- the test of a unit that is there
-is_none-is_free : (owners : List (Option ℕ)) (k : ℕ) → k < length owners → is_free owners k ≡ is_none (get_or owners k None)
+pub is_none-is_free : (owners : List (Option ℕ)) (k : ℕ) → k < length owners → is_free owners k ≡ is_none (get_or owners k None)
 is_none-is_free owners k h = let l : ltb k (length owners) ≡ true = grind (arith, nat_tests) in ap (λ b. b && is_none (get_or owners k None)) l
 
 -- no word is left
@@ -204,8 +204,8 @@ pub empty_word : (owners : List (Option ℕ)) (words : List ℕ) (free w : ℕ) 
 empty_word owners words free w m e h k lt = elim (cases_lt k (64 * w)) [
   | inl below ↦ h k below
   | inr here ↦
-    sym (m.marks k) ∙ mark_in words w k (omega arith)
-    ∙ ap (λ x. eqb (bit_at x (k % 64)) 1) e ∙ ap (λ x. eqb x 1) (bit_at-zero (k % 64))
+      sym (m.marks k) ∙ mark_in words w k (omega arith)
+      ∙ ap (λ x. eqb (bit_at x (k % 64)) 1) e ∙ ap (λ x. eqb x 1) (bit_at-zero (k % 64))
 ]
 
 -- the lowest bit of the first word that has one
@@ -221,9 +221,9 @@ module _ (owners : List (Option ℕ)) (words : List ℕ) (free w x : ℕ) (m : A
   lowest_mark-below h k lt = elim (cases_lt k (64 * w)) [
     | inl below ↦ h k below
     | inr here ↦
-      let t = bit_at-trailing_zeros w64 x some fits in
-      sym (m.marks k) ∙ mark_in words w k (omega (arith, t.0))
-      ∙ ap (λ y. eqb (bit_at y (k % 64)) 1) (sym e) ∙ ap (λ y. eqb y 1) (t.2 (k % 64) (omega (arith, t.0)))
+        let t = bit_at-trailing_zeros w64 x some fits in
+        sym (m.marks k) ∙ mark_in words w k (omega (arith, t.0))
+        ∙ ap (λ y. eqb (bit_at y (k % 64)) 1) (sym e) ∙ ap (λ y. eqb y 1) (t.2 (k % 64) (omega (arith, t.0)))
   ]
 
   -- it is one of the units

@@ -1,5 +1,5 @@
 -- The owner of each unit, and the free units as bits of words of 64 bits.
-use Rattle.std.specs.Prelude.{◌≡◌, ℕ, ◌+◌, ◌*◌, ◌/◌, ◌%◌, ◌^◌, ◌<◌, ◌≤◌, Bool, ◌&&◌, List, Option, Some, None, is_none, length, nat_lt, ◌==◌, count_by, slice_index, slice_index_or}
+use Rattle.std.specs.Prelude.{◌≡◌, ℕ, ◌*◌, ◌/◌, ◌%◌, ◌^◌, ◌<◌, ◌≤◌, Bool, ◌&&◌, List, Option, None, is_none, length, nat_lt, ◌==◌, count_by, slice_index, slice_index_or}
 use Rattle.std.specs.Int.{bit_at}
 
 -- the unit's bit is set

@@ -3,6 +3,8 @@
 #![tactic(auto)]
 
 pub mod errors;
+mod fill;
+pub mod kept;
 pub mod plain;
 mod states;
 mod sum;

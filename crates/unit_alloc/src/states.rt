@@ -2,6 +2,7 @@ ghost use Rattle.std.specs.Prelude.{◌≡◌, ◌<◌, ◌≤◌, ◌+◌, ◌*
 ghost use Rattle.unit_alloc.specs.Marks.{is_marked};
 
 use crate::Memory;
+use crate::fill::filled;
 use std::alloc::Global;
 use std::marker::Model;
 
@@ -32,10 +33,8 @@ impl States {
     pub(crate) fn new(alloc: Global, units: u32) -> Result<States, Memory>
         ensures { IfOk result (λ states. states ≡ replicate units None) }
     {
-        let mut owners = Vec::new(alloc);
-        owners.resize(units as usize, None).map_err(|_| Memory)?;
-        let mut words = Vec::new(alloc);
-        words.resize(units.div_ceil(64) as usize, 0).map_err(|_| Memory)?;
+        let owners = filled(alloc, None, units)?;
+        let mut words = filled(alloc, 0, units.div_ceil(64))?;
         mark_all(&mut words, units);
         Ok(States {
             owners,

@@ -1,4 +1,4 @@
-use Rattle.std.proofs.Common.{ℕ, ap, ◌∙◌, ◌-◌, ◌*◌, ◌/◌, ◌%◌, ◌^◌, bit_and, get_or, set, arith}
+use Rattle.std.proofs.Common.{ℕ, ap, ◌∙◌, ◌-◌, ◌*◌, ◌/◌, ◌%◌, ◌^◌, bit_and, set, arith}
 use Rattle.std.proofs.lemmas.List.{get_or_read}
 use Rattle.unit_alloc.specs.Marks.{is_marked}
 use Rattle.unit_alloc.proofs.MarksLemmas.{is_marked-unmark}

@@ -13,4 +13,4 @@ pub invariant_of-self : goal.invariant_of-self
 invariant_of-self c =
     let a = c.self.inside in
     AreMarked-give a.owners.items a.words.items c.unmark.new.words.items a.free c.args.unit c.args.part c.self.invariant
-      (subst (λ (owners : List (Option ℕ)). is_free owners c.args.unit ≡ true) (sym c.self.view_is) c.requires) c.unmark.ensures.long c.unmark.ensures.marks
+    (subst (λ (owners : List (Option ℕ)). is_free owners c.args.unit ≡ true) (sym c.self.view_is) c.requires) c.unmark.ensures.long c.unmark.ensures.marks
