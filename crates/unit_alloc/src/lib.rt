@@ -8,5 +8,8 @@ pub mod kept;
 pub mod plain;
 mod states;
 mod sum;
+#[cfg(test)]
+mod tests;
 
 pub use errors::{Memory, NoSpace, Owned};
+pub use kept::Owners;
