@@ -18,6 +18,10 @@ pub(crate) struct Chain {
 }
 
 /// Who owns which unit, kept from change to change.
+///
+/// Beside the states of the units it has, for each unit, the next one of the same part, and each
+/// part's chain. A unit is claimed in constant time, and the lowest free one found in the words of
+/// 64 units that are passed over; a place of a part is reached along the part's own units.
 #[derive(Drop)]
 pub struct Owners {
     states: States,
@@ -42,7 +46,8 @@ impl Owners {
 
     /// No unit has an owner. Takes all the memory that later calls need.
     pub fn new(alloc: Global, units: u32, parts: u32) -> Result<Owners, Memory>
-        ensures { IfOk result (λ owners. owners ≡ unowned units parts) }
+        ensures unowned { IfOk result (λ owners. owners ≡ unowned units parts) }
+        ensures one_owner { IfOk result (λ owners. OneOwner owners) }
     {
         let states = States::new(alloc, units)?;
         let next = filled(alloc, 0, units)?;
@@ -74,6 +79,7 @@ impl Owners {
         ensures owned { IsErr result ↔ IsTrue (is_owned self.old unit) }
         ensures ok { OnOk result (self.new ≡ handed self.old part (unit ∷ [])) }
         ensures err { OnErr result (self.new ≡ self.old) }
+        ensures one_owner { OneOwner self.new }
     {
         if self.is_owned(unit) {
             return Err(Owned);
@@ -82,12 +88,14 @@ impl Owners {
         Ok(())
     }
 
-    /// Hands the lowest free units out to a part, in ascending order.
+    /// Hands the lowest free units out to a part, in ascending order. The search for the next one
+    /// goes on where the last one was found.
     pub fn grow(&mut self, part: u32, more: u32) -> Result<(), NoSpace>
         requires { part < length self.old.parts }
         ensures no_space { IsErr result ↔ (length (free_units self.old) < more) }
         ensures ok { OnOk result (self.new ≡ handed self.old part (take more (free_units self.old))) }
         ensures err { OnErr result (self.new ≡ self.old) }
+        ensures one_owner { OneOwner self.new }
     {
         if self.free() < more {
             return Err(NoSpace);
@@ -104,7 +112,8 @@ impl Owners {
     /// Frees the units of a part that stand behind the first `keep`.
     pub fn shrink(&mut self, part: u32, keep: u32)
         requires { part < length self.old.parts }
-        ensures { self.new ≡ kept self.old part keep }
+        ensures kept { self.new ≡ kept self.old part keep }
+        ensures one_owner { OneOwner self.new }
     {
         let chain = self.chains[part as usize];
         if keep < chain.count {
@@ -121,7 +130,8 @@ impl Owners {
     /// Frees all units of a part.
     pub fn release(&mut self, part: u32)
         requires { part < length self.old.parts }
-        ensures { self.new ≡ with_units self.old part [] }
+        ensures released { self.new ≡ with_units self.old part [] }
+        ensures one_owner { OneOwner self.new }
     {
         self.shrink(part, 0);
     }
@@ -161,7 +171,8 @@ impl Owners {
 
     fn is_owned(&self, unit: u32) -> bool
         requires { unit < self.now.units }
-        ensures { result ≡ is_owned self.now unit }
+        ensures owned { result ≡ is_owned self.now unit }
+        ensures one_owner { OneOwner self.now }
     {
         !self.states.is_free(unit)
     }
@@ -179,7 +190,8 @@ impl Owners {
         requires part { part < length self.old.parts }
         requires unit { unit < self.old.units }
         requires free { times unit self.old.parts ≡ 0 }
-        ensures { self.new ≡ handed self.old part (unit ∷ []) }
+        ensures handed { self.new ≡ handed self.old part (unit ∷ []) }
+        ensures one_owner { OneOwner self.new }
     {
         let chain = self.chains[part as usize];
         self.states.give(unit, part);

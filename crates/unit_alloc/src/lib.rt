@@ -1,10 +1,13 @@
-//! Who owns which unit of super: for each logical partition, a part, the list of its units in the
-//! order in which they were handed out.
+//! Who owns which unit of super.
+//!
+//! A part is a logical partition. The meaning of `Owners` is, for each part, the list of its units
+//! in the order in which they were handed out; a unit has one owner at most. `plain::PlainOwners`
+//! has the same contracts over a body that only scans, and serves as a measure in tests.
 #![tactic(auto)]
 
-pub mod errors;
+mod errors;
 mod fill;
-pub mod kept;
+mod kept;
 pub mod plain;
 mod states;
 mod sum;

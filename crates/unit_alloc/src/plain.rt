@@ -44,7 +44,8 @@ impl PlainOwners {
 
     /// No unit has an owner. Takes all the memory that later calls need.
     pub fn new(alloc: Global, units: u32, parts: u32) -> Result<PlainOwners, Memory>
-        ensures { IfOk result (λ owners. owners ≡ unowned units parts) }
+        ensures unowned { IfOk result (λ owners. owners ≡ unowned units parts) }
+        ensures one_owner { IfOk result (λ owners. OneOwner owners) }
     {
         let entries = Vec::with_capacity(alloc, units as usize).map_err(|_| Memory)?;
         Ok(PlainOwners {
@@ -76,6 +77,7 @@ impl PlainOwners {
         ensures owned { IsErr result ↔ IsTrue (is_owned self.old unit) }
         ensures ok { OnOk result (self.new ≡ handed self.old part (unit ∷ [])) }
         ensures err { OnErr result (self.new ≡ self.old) }
+        ensures one_owner { OneOwner self.new }
     {
         if self.is_owned(unit) {
             return Err(Owned);
@@ -91,6 +93,7 @@ impl PlainOwners {
         ensures no_space { IsErr result ↔ (length (free_units self.old) < more) }
         ensures ok { OnOk result (self.new ≡ handed self.old part (take more (free_units self.old))) }
         ensures err { OnErr result (self.new ≡ self.old) }
+        ensures one_owner { OneOwner self.new }
     {
         if self.free() < more {
             return Err(NoSpace);
@@ -105,7 +108,8 @@ impl PlainOwners {
     /// Frees the units of a part that stand behind the first `keep`.
     pub fn shrink(&mut self, part: u32, keep: u32)
         requires { part < length self.old.parts }
-        ensures { self.new ≡ kept self.old part keep }
+        ensures kept { self.new ≡ kept self.old part keep }
+        ensures one_owner { OneOwner self.new }
     {
         let count = keep_first(&mut self.entries, part, keep);
         self.entries.truncate(count);
@@ -114,7 +118,8 @@ impl PlainOwners {
     /// Frees all units of a part.
     pub fn release(&mut self, part: u32)
         requires { part < length self.old.parts }
-        ensures { self.new ≡ with_units self.old part [] }
+        ensures released { self.new ≡ with_units self.old part [] }
+        ensures one_owner { OneOwner self.new }
     {
         self.shrink(part, 0);
     }
@@ -157,7 +162,8 @@ impl PlainOwners {
     }
 
     fn is_owned(&self, unit: u32) -> bool
-        ensures { result ≡ is_owned self.now unit }
+        ensures owned { result ≡ is_owned self.now unit }
+        ensures one_owner { OneOwner self.now }
     {
         has_entry(&self.entries, unit)
     }
@@ -178,7 +184,8 @@ impl PlainOwners {
         requires part { part < length self.old.parts }
         requires unit { unit < self.old.units }
         requires free { times unit self.old.parts ≡ 0 }
-        ensures { self.new ≡ handed self.old part (unit ∷ []) }
+        ensures handed { self.new ≡ handed self.old part (unit ∷ []) }
+        ensures one_owner { OneOwner self.new }
     {
         let Ok(()) = self.entries.push(Entry { part, unit }) else {
             unreachable!();

@@ -1,11 +1,12 @@
 ghost use Rattle.std.specs.Prelude.{◌≡◌, length};
 
-use crate::plain::PlainOwners;
 use crate::Owners;
+use crate::plain::PlainOwners;
 use std::process::Abort;
 use std::test::Fail;
 
 const UNITS: u32 = 200;
+
 const PARTS: u32 = 6;
 
 /// Two parts grow in turn, and the first one's unit goes to the second.

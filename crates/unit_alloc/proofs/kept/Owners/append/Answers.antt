@@ -26,8 +26,14 @@ invariant_of-self c =
     AreChained-same _ _ _ _ _ _ c.give.ensures c.link.ensures (ap (set a.chains.items c.args.part) c.longer.ensures)
     (appends a.states a.next.items a.chains.items c.args.self.now c.args.part c.args.unit c.index-chain.result.now c.self.invariant c.self.view_is c.requires.part c.requires.unit c.requires.free c.index-chain.ensures).still
 
-pub returns : goal.returns
-returns c =
+pub returns-clause-handed : goal.returns-clause-handed
+returns-clause-handed c =
     let a = c.self.inside in
     chained-same _ _ _ _ _ _ c.give.ensures c.link.ensures (ap (set a.chains.items c.args.part) c.longer.ensures)
     ∙ (appends a.states a.next.items a.chains.items c.args.self.now c.args.part c.args.unit c.index-chain.result.now c.self.invariant c.self.view_is c.requires.part c.requires.unit c.requires.free c.index-chain.ensures).owning
+
+pub returns-clause-one_owner : goal.returns-clause-one_owner
+returns-clause-one_owner c =
+    let a = c.self.inside in
+    (AreChained-same _ _ _ _ _ _ c.give.ensures c.link.ensures (ap (set a.chains.items c.args.part) c.longer.ensures)
+    (appends a.states a.next.items a.chains.items c.args.self.now c.args.part c.args.unit c.index-chain.result.now c.self.invariant c.self.view_is c.requires.part c.requires.unit c.requires.free c.index-chain.ensures).still).one

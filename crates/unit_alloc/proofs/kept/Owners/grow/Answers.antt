@@ -10,8 +10,9 @@ loop-count-preserved c =
     let m = c.loop-count.self in
     let u : ℕ = c.lowest_free-unit.result in
     let grown = c.loop-count.invariant.0 in (
-      rw c.append.ensures (Grown-more c.args.self.now m c.args.part c.loop-count._count u grown c.requires (omega arith) c.lowest_free-unit.ensures),
-      λ k lt. subst (λ (n : Owning). 0 < times k n.parts) (sym c.append.ensures)
+      rw c.append.ensures.handed (Grown-more c.args.self.now m c.args.part c.loop-count._count u grown c.requires (omega arith) c.lowest_free-unit.ensures),
+      c.append.ensures.one_owner,
+      λ k lt. subst (λ (n : Owning). 0 < times k n.parts) (sym c.append.ensures.handed)
           (let e = times-handed_one k m c.args.part u (omega (arith, c.requires, grown.parts)) in
           let b = c.lowest_free-unit.ensures.lowest k (omega arith) in
           omega arith),

@@ -8,8 +8,8 @@ not-not : (b : Bool) → not (not b) ≡ b
 not-not true = refl
 not-not false = refl
 
-pub returns : goal.returns
-returns c =
+pub returns-clause-owned : goal.returns-clause-owned
+returns-clause-owned c =
     let a = c.self.inside in
     let m = c.args.self.now in
     let there : c.args.unit < length a.states = omega (arith, unit-view a.states a.next.items a.chains.items m c.self.view_is, c.requires) in

@@ -9,6 +9,11 @@ invariant_of-result c =
     AreChained-same _ _ _ _ _ _ c.in_ok-states.ensures c.in_ok-next.ensures c.in_ok-chains.ensures
     (AreChained-none (replicate c.args.units 0) c.args.units c.args.parts (length-replicate {A = ℕ} c.args.units 0) (omega arith))
 
-pub returns : goal.returns
-returns c =
+pub returns-clause-unowned : goal.returns-clause-unowned
+returns-clause-unowned c =
     chained-same _ _ _ _ _ _ c.in_ok-states.ensures c.in_ok-next.ensures c.in_ok-chains.ensures ∙ chained-none (replicate c.args.units 0) c.args.units c.args.parts
+
+pub returns-clause-one_owner : goal.returns-clause-one_owner
+returns-clause-one_owner c =
+    (AreChained-same _ _ _ _ _ _ c.in_ok-states.ensures c.in_ok-next.ensures c.in_ok-chains.ensures
+    (AreChained-none (replicate c.args.units 0) c.args.units c.args.parts (length-replicate {A = ℕ} c.args.units 0) (omega arith))).one

@@ -35,8 +35,8 @@ invariant_of-self c =
     (cuts a.states a.next.items a.chains.items c.args.self.now c.args.part c.args.keep last from ch c.self.invariant c.self.view_is c.requires c.index-chain.ensures c.if-keep-chain.true
     (λ h. c.cut-last.ensures.last h ∙ ap (λ (l : List ℕ). stepped l ch.first (c.args.keep - 1)) next) (c.cut-last.ensures.from ∙ ap (λ (l : List ℕ). stepped l ch.first c.args.keep) next)).still
 
-pub returns-then-keep-chain : goal.returns-then-keep-chain
-returns-then-keep-chain c =
+pub returns-then-keep-chain-clause-kept : goal.returns-then-keep-chain-clause-kept
+returns-then-keep-chain-clause-kept c =
     let a = c.self.inside in
     let ch = c.index-chain.result.now in
     let last = c.cut-last.result.0 in
@@ -46,8 +46,19 @@ returns-then-keep-chain c =
     ∙ (cuts a.states a.next.items a.chains.items c.args.self.now c.args.part c.args.keep last from ch c.self.invariant c.self.view_is c.requires c.index-chain.ensures c.if-keep-chain.true
     (λ h. c.cut-last.ensures.last h ∙ ap (λ (l : List ℕ). stepped l ch.first (c.args.keep - 1)) next) (c.cut-last.ensures.from ∙ ap (λ (l : List ℕ). stepped l ch.first c.args.keep) next)).owning
 
-pub returns-else-keep-chain : goal.returns-else-keep-chain
-returns-else-keep-chain c =
+pub returns-then-keep-chain-clause-one_owner : goal.returns-then-keep-chain-clause-one_owner
+returns-then-keep-chain-clause-one_owner c =
+    let a = c.self.inside in
+    let ch = c.index-chain.result.now in
+    let last = c.cut-last.result.0 in
+    let from = c.cut-last.result.1 in
+    let next = c.deref.ensures.value in
+    (AreChained-same _ _ _ _ _ _ (c.free_chain.ensures ∙ ap (λ (l : List ℕ). freed a.states (linked l from (ch.count - c.args.keep))) c.deref-then-keep-chain.ensures.value) refl refl
+    (cuts a.states a.next.items a.chains.items c.args.self.now c.args.part c.args.keep last from ch c.self.invariant c.self.view_is c.requires c.index-chain.ensures c.if-keep-chain.true
+    (λ h. c.cut-last.ensures.last h ∙ ap (λ (l : List ℕ). stepped l ch.first (c.args.keep - 1)) next) (c.cut-last.ensures.from ∙ ap (λ (l : List ℕ). stepped l ch.first c.args.keep) next)).still).one
+
+pub returns-else-keep-chain-clause-kept : goal.returns-else-keep-chain-clause-kept
+returns-else-keep-chain-clause-kept c =
     let a = c.self.inside in
     let n = length-view a.states a.next.items a.chains.items c.args.self.now c.args.part c.index-chain.result.now c.self.view_is c.requires c.index-chain.ensures in
     sym (kept-all c.args.self.now c.args.part c.args.keep (omega arith))

@@ -6,8 +6,8 @@ use Rattle.unit_alloc.specs.Owning.{Owning, times}
 use Rattle.unit_alloc.proofs.LogLemmas.{is_owned-replayed}
 use Rattle.unit_alloc.proofs.plain.PlainOwners.is_owned.Goals as goal
 
-pub returns : goal.returns
-returns c =
+pub returns-clause-owned : goal.returns-clause-owned
+returns-clause-owned c =
     let a = c.self.inside in
     c.has_entry.ensures
     ∙ ap (λ (entries : List Entry). list_any (λ e. eqb e.unit c.args.unit) entries) c.deref.ensures.value

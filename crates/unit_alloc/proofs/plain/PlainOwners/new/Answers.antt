@@ -10,7 +10,12 @@ invariant_of-result c =
     let room : c.args.units ≤ vec_capacity c.in_ok-entries.entries = search rules in
     (IsLog-empty c.args.units c.args.parts c.in_ok-entries.entries.items e, room, omega arith)
 
-pub returns : goal.returns
-returns c =
+pub returns-clause-unowned : goal.returns-clause-unowned
+returns-clause-unowned c =
     let e : c.in_ok-entries.entries.items ≡ [] = search rules in
     replayed_empty c.args.units c.args.parts c.in_ok-entries.entries.items e
+
+pub returns-clause-one_owner : goal.returns-clause-one_owner
+returns-clause-one_owner c =
+    let e : c.in_ok-entries.entries.items ≡ [] = search rules in
+    (IsLog-empty c.args.units c.args.parts c.in_ok-entries.entries.items e).one

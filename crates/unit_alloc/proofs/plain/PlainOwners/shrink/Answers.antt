@@ -25,5 +25,8 @@ stays c =
 pub invariant_of-self : goal.invariant_of-self
 invariant_of-self c = ((stays c).0, omega (arith, c.self.invariant.1, c.truncate.ensures.capacity), c.self.invariant.2)
 
-pub returns : goal.returns
-returns c = (stays c).1
+pub returns-clause-kept : goal.returns-clause-kept
+returns-clause-kept c = (stays c).1
+
+pub returns-clause-one_owner : goal.returns-clause-one_owner
+returns-clause-one_owner c = (stays c).0.one
