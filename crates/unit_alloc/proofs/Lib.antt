@@ -1,0 +1,12 @@
+pub mod TimesLemmas
+pub mod FreeLemmas
+pub mod HandedLemmas
+pub mod GrownLemmas
+pub mod KeptLemmas
+pub mod LogLemmas
+pub mod FrontLemmas
+pub mod MarksLemmas
+pub mod LinkedLemmas
+pub mod ChainedLemmas
+pub mod AppendLemmas
+pub mod CutLemmas

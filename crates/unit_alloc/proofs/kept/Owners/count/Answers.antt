@@ -1,0 +1,9 @@
+-- A part has as many units as its chain.
+use Rattle.std.proofs.Common.{sym}
+use Rattle.unit_alloc.proofs.ChainedLemmas.{length-view}
+use Rattle.unit_alloc.proofs.kept.Owners.count.Goals as goal
+
+pub returns-clause-count : goal.returns-clause-count
+returns-clause-count c =
+    let a = c.self.inside in
+    sym (length-view a.states a.next.items a.chains.items c.args.self.now c.args.part c.index.result.now c.self.view_is c.requires c.index.ensures)

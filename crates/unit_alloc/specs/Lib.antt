@@ -1,0 +1,4 @@
+pub mod Owning
+pub mod Log
+pub mod Marks
+pub mod Chains
