@@ -5,7 +5,7 @@ ghost use Rattle.fb_frame.specs.Causes.{Rose};
 ghost use Rattle.wire_model.specs.Places.{IsKept, Appended};
 ghost use Rattle.wire_model.specs.Told.{HungUp, Lost, IsBarred, Begun, Greeted, Opened};
 
-use crate::host::{recv_all, send_all};
+use crate::host::{HearError, recv_all, send_all};
 use crate::port::Port;
 use thiserror::Error;
 
@@ -14,6 +14,8 @@ use thiserror::Error;
 pub enum OpenError {
     #[error("the connection failed")]
     Link,
+    #[error("the connection ended before the handshake")]
+    Ended,
     #[error("what came is no handshake")]
     BadHandshake,
 }
@@ -33,19 +35,23 @@ pub fn greet<P: Port>(port: &mut P) -> Result<(), OpenError>
     ensures up { OnOk result (IsTrue (P.up port.new)) }
     ensures greeted { OnOk result (Greeted (P.peer port.old) (P.peer port.new)) }
     ensures lost { IsErrOf result OpenError.Link → Lost (P.peer port.old) (P.peer port.new) }
+    ensures untold { IsErrOf result OpenError.Ended → P.peer port.old ≡ None }
     ensures bad { IsErrOf result OpenError.BadHandshake → P.peer port.old ≡ None }
     ensures kept { IsKept (P.aimed port.old) (P.aimed port.new) (P.last port.old) (P.last port.new) (P.stands port.old) (P.stands port.new) }
     ensures later { P.faults port.old ≤ P.faults port.new }
     ensures ends { P.ends port.old ≤ P.ends port.new }
-    ensures cause { IsErrOf result OpenError.Link → Rose (P.faults port.old) (P.faults port.new) ⊎ Rose (P.ends port.old) (P.ends port.new) }
+    ensures cause { IsErrOf result OpenError.Link → Rose (P.faults port.old) (P.faults port.new) }
+    ensures end { IsErrOf result OpenError.Ended → Rose (P.ends port.old) (P.ends port.new) }
 {
     let Ok(()) = send_all(port, b"FB01") else {
         return Err(OpenError::Link);
     };
     let mut four = [0; 4];
-    let Ok(()) = recv_all(port, &mut four) else {
-        return Err(OpenError::Link);
-    };
+    match recv_all(port, &mut four) {
+        Ok(()) => {}
+        Err(HearError::Link) => return Err(OpenError::Link),
+        Err(HearError::Ended) => return Err(OpenError::Ended),
+    }
     if !is_greeting(&four) {
         return Err(OpenError::BadHandshake);
     }
@@ -59,11 +65,13 @@ pub fn open<P: Port>(port: &mut P) -> Result<(), OpenError>
     ensures up { OnOk result (IsTrue (P.up port.new)) }
     ensures opened { OnOk result (Opened (2 ^ 61) (P.peer port.old) (P.peer port.new)) }
     ensures left { IsErrOf result OpenError.Link → HungUp (P.peer port.old) (P.peer port.new) }
+    ensures untold { IsErrOf result OpenError.Ended → P.peer port.old ≡ None }
     ensures bad { IsErrOf result OpenError.BadHandshake → P.peer port.old ≡ None }
     ensures kept { IsKept (P.aimed port.old) (P.aimed port.new) (P.last port.old) (P.last port.new) (P.stands port.old) (P.stands port.new) }
     ensures later { P.faults port.old ≤ P.faults port.new }
     ensures ends { P.ends port.old ≤ P.ends port.new }
-    ensures cause { IsErrOf result OpenError.Link → (Rose (P.faults port.old) (P.faults port.new) ⊎ Rose (P.ends port.old) (P.ends port.new)) ⊎ IsBarred (P.peer port.old) }
+    ensures cause { IsErrOf result OpenError.Link → Rose (P.faults port.old) (P.faults port.new) ⊎ IsBarred (P.peer port.old) }
+    ensures end { IsErrOf result OpenError.Ended → Rose (P.ends port.old) (P.ends port.new) }
 {
     let Ok(()) = port.connect() else {
         return Err(OpenError::Link);
