@@ -6,3 +6,4 @@ pub mod download;
 pub mod host;
 pub mod open;
 pub mod port;
+pub mod states;
