@@ -1,4 +1,4 @@
-ghost use Rattle.std.specs.Prelude.{◌≡◌, ℕ, List, ◌⊎◌, ◌+◌, ◌<◌, ◌≤◌, length, take, Option, None, Bool, IsTrue, OnOk, OnErr, IfOk};
+ghost use Rattle.std.specs.Prelude.{◌≡◌, ℕ, List, ◌⊎◌, ◌+◌, ◌<◌, ◌≤◌, length, take, Option, None, Bool, IsTrue, IsFalse, OnOk, OnErr, IfOk};
 ghost use Rattle.std.specs.Result.{IsErrOf};
 ghost use Rattle.fb_frame.specs.Framing.{frame};
 ghost use Rattle.fb_frame.specs.Causes.{HasCause, Rose};
@@ -15,6 +15,7 @@ pub fn send_all<P: Port>(port: &mut P, bytes: &[u8]) -> Result<(), LinkFault>
     requires up { IsTrue (P.up port.old) }
     requires turn { MaySend P.takes (P.peer port.old) bytes.now }
     ensures up { OnOk result (IsTrue (P.up port.new)) }
+    ensures down { OnErr result (IsFalse (P.up port.new)) }
     ensures sent { OnOk result (Sent (P.faults port.old) (P.faults port.new) (P.peer port.old) (P.peer port.new) bytes.now) }
     ensures left { OnErr result (LeftBy (P.faults port.old) (P.faults port.new) (P.peer port.old) (P.peer port.new) bytes.now) }
     ensures kept { IsKept (P.aimed port.old) (P.aimed port.new) (P.last port.old) (P.last port.new) (P.stands port.old) (P.stands port.new) }
@@ -48,6 +49,7 @@ pub fn recv_all<P: Port>(port: &mut P, buf: &mut [u8]) -> Result<(), HearError>
     ensures got { OnOk result (Heard (P.peer port.old) (P.peer port.new) buf.new) }
     ensures left { IsErrOf result HearError.Link → HungUp (P.peer port.old) (P.peer port.new) }
     ensures untold { IsErrOf result HearError.Ended → P.peer port.old ≡ None }
+    ensures gone { IsErrOf result HearError.Ended → P.peer port.new ≡ None }
     ensures kept { IsKept (P.aimed port.old) (P.aimed port.new) (P.last port.old) (P.last port.new) (P.stands port.old) (P.stands port.new) }
     ensures heard { OnOk result (Appended (P.heard port.old) (P.heard port.new) buf.new) }
     ensures later { P.faults port.old ≤ P.faults port.new }
@@ -77,6 +79,7 @@ pub fn send_frame<P: Port>(port: &mut P, payload: &[u8]) -> Result<(), LinkFault
     requires some { 0 < length payload.now }
     requires short { length payload.now ≤ 4096 }
     ensures up { OnOk result (IsTrue (P.up port.new)) }
+    ensures down { OnErr result (IsFalse (P.up port.new)) }
     ensures sent { OnOk result (Sent (P.faults port.old) (P.faults port.new) (P.peer port.old) (P.peer port.new) (frame payload.now)) }
     ensures left { OnErr result (LeftBy (P.faults port.old) (P.faults port.new) (P.peer port.old) (P.peer port.new) (frame payload.now)) }
     ensures kept { IsKept (P.aimed port.old) (P.aimed port.new) (P.last port.old) (P.last port.new) (P.stands port.old) (P.stands port.new) }
@@ -103,7 +106,7 @@ pub enum AskError {
 
 /// The length that a head tells.
 #[tactic(auto, using(wire_model::proofs::ToldLemmas::heads))]
-fn told_length(head: &[u8; 8]) -> u64
+pub(crate) fn told_length(head: &[u8; 8]) -> u64
     ensures { IsHead result head.now }
 {
     u64::from_be_bytes(*head)

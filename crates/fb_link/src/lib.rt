@@ -4,6 +4,8 @@
 pub mod deaf;
 pub mod download;
 pub mod host;
+pub mod lines;
 pub mod open;
 pub mod port;
+pub mod replies;
 pub mod states;

@@ -17,7 +17,7 @@ pub enum OpenError {
     #[error("the connection ended before the handshake")]
     Ended,
     #[error("what came is no handshake")]
-    BadHandshake,
+    BadHandshake([u8; 4]),
 }
 
 fn is_greeting(four: &[u8; 4]) -> bool
@@ -36,7 +36,10 @@ pub fn greet<P: Port>(port: &mut P) -> Result<(), OpenError>
     ensures greeted { OnOk result (Greeted (P.peer port.old) (P.peer port.new)) }
     ensures lost { IsErrOf result OpenError.Link → Lost (P.peer port.old) (P.peer port.new) }
     ensures untold { IsErrOf result OpenError.Ended → P.peer port.old ≡ None }
-    ensures bad { IsErrOf result OpenError.BadHandshake → P.peer port.old ≡ None }
+    ensures gone { IsErrOf result OpenError.Ended → P.peer port.new ≡ None }
+    ensures bad { (four : _) → IsErrOf result (OpenError.BadHandshake four) → four ≢ handshake 1 }
+    ensures told { (four : _) → IsErrOf result (OpenError.BadHandshake four) → P.peer port.old ≡ None }
+    ensures lost_told { (four : _) → IsErrOf result (OpenError.BadHandshake four) → P.peer port.new ≡ None }
     ensures kept { IsKept (P.aimed port.old) (P.aimed port.new) (P.last port.old) (P.last port.new) (P.stands port.old) (P.stands port.new) }
     ensures later { P.faults port.old ≤ P.faults port.new }
     ensures ends { P.ends port.old ≤ P.ends port.new }
@@ -53,7 +56,7 @@ pub fn greet<P: Port>(port: &mut P) -> Result<(), OpenError>
         Err(HearError::Ended) => return Err(OpenError::Ended),
     }
     if !is_greeting(&four) {
-        return Err(OpenError::BadHandshake);
+        return Err(OpenError::BadHandshake(four));
     }
     Ok(())
 }
@@ -66,7 +69,10 @@ pub fn open<P: Port>(port: &mut P) -> Result<(), OpenError>
     ensures opened { OnOk result (Opened (2 ^ 61) (P.peer port.old) (P.peer port.new)) }
     ensures left { IsErrOf result OpenError.Link → HungUp (P.peer port.old) (P.peer port.new) }
     ensures untold { IsErrOf result OpenError.Ended → P.peer port.old ≡ None }
-    ensures bad { IsErrOf result OpenError.BadHandshake → P.peer port.old ≡ None }
+    ensures gone { IsErrOf result OpenError.Ended → P.peer port.new ≡ None }
+    ensures bad { (four : _) → IsErrOf result (OpenError.BadHandshake four) → four ≢ handshake 1 }
+    ensures told { (four : _) → IsErrOf result (OpenError.BadHandshake four) → P.peer port.old ≡ None }
+    ensures lost_told { (four : _) → IsErrOf result (OpenError.BadHandshake four) → P.peer port.new ≡ None }
     ensures kept { IsKept (P.aimed port.old) (P.aimed port.new) (P.last port.old) (P.last port.new) (P.stands port.old) (P.stands port.new) }
     ensures later { P.faults port.old ≤ P.faults port.new }
     ensures ends { P.ends port.old ≤ P.ends port.new }

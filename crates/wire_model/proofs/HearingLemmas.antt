@@ -19,10 +19,10 @@ use Rattle.wire_model.proofs.AnswerLemmas.{frame-front}
 most : (m n : ℕ) → nat_le m n ≡ true → m ≤ n
 most m n e = let h : m ≤ n = grind (arith, nat_tests) in h
 
-abbrev pub IsSized : List ℕ → Type 0
-IsSized bytes = (4 ≤ length bytes) × (length bytes ≤ 256)
+abbrev pub IsReplySized : List ℕ → Type 0
+IsReplySized bytes = (4 ≤ length bytes) × (length bytes ≤ 256)
 
-pub reply-sized : (r : Reply) → reply_fits r ≡ true → IsSized (reply_bytes r)
+pub reply-sized : (r : Reply) → reply_fits r ≡ true → IsReplySized (reply_bytes r)
 reply-sized (Okay text) f = let h = most (length text) 252 f in (omega (arith, length-append (codes "OKAY") text), omega (arith, h, length-append (codes "OKAY") text))
 reply-sized (Fail text) f = let h = most (length text) 252 f in (omega (arith, length-append (codes "FAIL") text), omega (arith, h, length-append (codes "FAIL") text))
 reply-sized (Info text) f = let h = most (length text) 252 f in (omega (arith, length-append (codes "INFO") text), omega (arith, h, length-append (codes "INFO") text))

@@ -170,7 +170,7 @@ pub HungUp-more : (a b c : Option Peer) (bytes : List ℕ) → Heard a b bytes �
 HungUp-more a b c bytes f g =
     kept-hung (λ w v. w ≡ record v { out = bytes ++ v.out }) (λ w u e. sym (ap (λ (x : Wire). x.device) e)) a b c f g
 
-heard-none : (a b : Option Peer) (x : List ℕ) → Heard a b x → b ≡ None → a ≡ None
+pub heard-none : (a b : Option Peer) (x : List ℕ) → Heard a b x → b ≡ None → a ≡ None
 heard-none None b x f e = refl
 heard-none (Some p) b x f e = absurd (off p (subst (λ q. OnLink (λ w v. w ≡ record v { out = x ++ v.out }) (Some p) q) e f))
   where
@@ -182,7 +182,18 @@ heard-none (Some p) b x f e = absurd (off p (subst (λ q. OnLink (λ w v. w ≡ 
 pub untold-end : (a b c : Option Peer) (x y : List ℕ) (n : ℕ) → Heard a b x → Heard b c y → Gives b n → 0 < n → AtEnd b → a ≡ None
 untold-end a b c x y n f g h i e = heard-none a b x f (not-at-end b n h i e)
 
-pub ruleset hear_loop = (Heard-more, Heard-nothing, Gives-rest, MayHear-from, HungUp-more, untold-end)
+heard-gone : (a b : Option Peer) (x : List ℕ) → Heard a b x → a ≡ None → b ≡ None
+heard-gone None None x f e = refl
+heard-gone None (Some p) x f e = absurd f
+heard-gone (Some p) b x f e = absurd (some-none p e)
+  where
+    some-none : (q : Peer) → Some q ≡ None → ⊥
+    some-none q h = cc
+
+pub gone-end : (b c : Option Peer) (y : List ℕ) (n : ℕ) → Heard b c y → Gives b n → 0 < n → AtEnd b → c ≡ None
+gone-end b c y n g h i e = heard-gone b c y g (not-at-end b n h i e)
+
+pub ruleset hear_loop = (Heard-more, Heard-nothing, Gives-rest, MayHear-from, HungUp-more, untold-end, gone-end)
 
 -- One frame of a command, head and payload.
 shake-not-command : Shake ≢ Command

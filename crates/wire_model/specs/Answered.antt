@@ -73,6 +73,15 @@ pub record IsNext (w : Wire) : Type 0 where
 abbrev pub Next : Option Peer → Type 0
 Next a = OfLink IsNext a
 
+-- the bytes of a reply are next, n of them, which are 4 to 256
+pub record IsSized (n : ℕ) (w : Wire) : Type 0 where
+  pub long : 4 ≤ n
+  pub short : n ≤ 256
+  pub there : n ≤ length w.out
+
+abbrev pub Sized : Option Peer → ℕ → Type 0
+Sized a n = OfLink (IsSized n) a
+
 -- a told device is as it was
 abbrev pub Stays : Option Peer → Option Peer → Type 0
 Stays None None = Unit {0}
