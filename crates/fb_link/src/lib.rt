@@ -1,6 +1,7 @@
 //! The way to a device: the trait `Port`, and what a host does over any port.
 #![tactic(auto)]
 
+pub mod command;
 pub mod deaf;
 pub mod download;
 pub mod host;

@@ -226,7 +226,11 @@ fn hear_replies<P: Port, S: Sink>(port: &mut P, shown: &mut S, before: u32) -> R
 
 /// The same, and the connection ends where something was wrong.
 #[tactic(auto, using(wire_model::proofs::NextLemmas::next_hung, wire_model::proofs::KeptLemmas::kept))]
-pub(crate) fn hear_end<P: Port, S: Sink>(port: &mut P, shown: &mut S, before: u32) -> Result<End, Unheard>
+pub(crate) fn hear_end<P: Port, S: Sink>(
+    port: &mut P,
+    shown: &mut S,
+    before: u32,
+) -> Result<End, Unheard>
     requires up { IsTrue (P.up port.old) }
     requires listening { Listening before (P.peer port.old) }
     requires few { before < 10000 }

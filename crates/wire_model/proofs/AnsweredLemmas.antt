@@ -1,29 +1,22 @@
 -- A command and all of its replies: what was heard is what the device says.
-use Rattle.std.proofs.Common.{◌≡◌, ◌≢◌, ◌⊎◌, inl, inr, ℕ, suc, ◌+◌, ◌*◌, ◌^◌, ◌<◌, ◌≤◌, Bool, true, false, cond, List, [], ◌∷◌, ◌++◌, length, map, Option, Some, None, refl, sym, ap, ◌∙◌, subst, arith, append_assoc, append-nil, length-append}
-use Rattle.std.specs.Prelude.{◌&&◌, ◌==◌, nat_eq, nat_le, nat_lt, flat_map, codes, All, IsTrue, not, bytes_eq, option_and_then}
-use Rattle.std.specs.List.{list_all, list_any}
-use Rattle.std.proofs.lemmas.Bool.Decides.{nat_tests}
+use Rattle.std.proofs.Common.{◌≡◌, ◌⊎◌, inl, inr, ℕ, ◌+◌, ◌<◌, ◌≤◌, Bool, true, false, cond, List, [], ◌∷◌, ◌++◌, length, map, Option, Some, None, refl, sym, ap, ◌∙◌, arith, append-nil}
+use Rattle.std.specs.Prelude.{codes, bytes_eq, option_and_then}
+use Rattle.std.specs.List.{list_all}
 use Rattle.fb_frame.specs.Framing.{frame}
-use Rattle.fb_frame.specs.Causes.{Rose}
 use Rattle.fb_message.specs.declared.reply.Reply.{Reply}
-use Rattle.fb_message.specs.declared.reply.Reply.TheVariants.{Okay, Fail, Info, Text, Load}
-use Rattle.fb_message.specs.ReplyText.{reply_bytes, reply_fits}
+use Rattle.fb_message.specs.declared.reply.Reply.TheVariants.{Okay, Fail, Info}
+use Rattle.fb_message.specs.ReplyText.{reply_fits}
 use Rattle.fb_message.specs.CommandText.{CommandValue, GetVar, Download, Flash, Erase, SetActive, Reboot, Continue, Lock, Unlock, UnlockAbility, UpdateSuper, Create, Delete, Resize, Unknown, command_of}
 use Rattle.dev_model.specs.declared.device.Dev.{Dev}
 use Rattle.dev_model.specs.Refusals.{flash_refusal, erase_refusal, active_refusal, download_refusal, lock_refusal, create_refusal, delete_refusal, resize_refusal, update_refusal}
 use Rattle.dev_model.specs.Validity.{IsValid}
 use Rattle.dev_model.specs.Variables.{value, all_rows, Row}
-use Rattle.wire_model.specs.Peers.{Peer, Apart, Joined, device_of, OfLink, OnLink}
 use Rattle.wire_model.specs.TableFile.{tables_of}
-use Rattle.wire_model.specs.Says.{Loaded, Said, says, decides, awaits, tells, tells_all}
-use Rattle.wire_model.specs.Wire.{Wire, Command, Data, with_replies, received, awaited, answered, paid, after}
-use Rattle.wire_model.specs.Halts.{Halts, faulted}
-use Rattle.wire_model.specs.Told.{GoesBy, IsIdle, disk_fault, done, IsNoLoad, Heard, HungUp}
-use Rattle.wire_model.specs.Replied.{failed_in}
-use Rattle.wire_model.specs.Answered.{is_line, ends_well, reply_frames, IsSaid, IsFaulted, IsAnswered, IsListening, IsBetween, IsDue, IsLoadedNow, IsSending, suits}
-use Rattle.wire_model.proofs.Going.{goes-plain}
-use Rattle.wire_model.proofs.GoesValid.{goes_keeps_valid}
-use Rattle.wire_model.proofs.OneFrames.{length-frame, goes-whole, paid_by, IsBroken}
+use Rattle.wire_model.specs.Says.{Loaded, says, decides, awaits, tells, tells_all}
+use Rattle.wire_model.specs.Wire.{Wire}
+use Rattle.wire_model.specs.Told.{GoesBy, IsIdle, disk_fault, done}
+use Rattle.wire_model.specs.Answered.{ends_well, reply_frames, IsAnswered, IsListening}
+use Rattle.wire_model.proofs.OneFrames.{goes-whole, paid_by, IsBroken}
 use Rattle.wire_model.proofs.ToldLemmas.{idle-frame}
 use Rattle.wire_model.proofs.AnswerLemmas.{broken-out, paid-done, answered-adds}
 use Rattle.wire_model.proofs.RepliedLemmas.{failed-now}

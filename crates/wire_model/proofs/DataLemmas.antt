@@ -23,7 +23,7 @@ shake-not-data count got e = cc
 command-not-data : (count : ℕ) (got : List ℕ) → Command ≢ Data count got
 command-not-data count got e = cc
 
-data-frame : (spare count : ℕ) (got p : List ℕ) (w : Wire) → IsReceiving spare count got w → 0 < length p → length got + length p ≤ count → length p ≤ 65536 → OneFrame p (frame p) w
+pub data-frame : (spare count : ℕ) (got p : List ℕ) (w : Wire) → IsReceiving spare count got w → 0 < length p → length got + length p ≤ count → length p ≤ 65536 → OneFrame p (frame p) w
 data-frame spare count got p w i some h s = record {
   running = i.running;
   quiet = i.quiet;

@@ -1,17 +1,16 @@
 -- Replies, heard one after another.
-use Rattle.std.proofs.Common.{◌≡◌, ◌≢◌, ◌⊎◌, inl, inr, ℕ, suc, ◌+◌, ◌*◌, ◌^◌, ◌<◌, ◌≤◌, Bool, true, false, cond, List, [], ◌∷◌, ◌++◌, length, map, Option, Some, None, refl, sym, ap, ◌∙◌, subst, arith, append_assoc, append-nil, length-append}
-use Rattle.std.specs.Prelude.{◌&&◌, ◌==◌, nat_eq, nat_le, nat_lt, flat_map, codes, All, IsTrue, not, bytes_eq, option_and_then}
+use Rattle.std.proofs.Common.{◌≡◌, ℕ, suc, ◌+◌, ◌≤◌, Bool, true, false, cond, List, [], ◌∷◌, ◌++◌, length, Some, refl, sym, ap, ◌∙◌, arith, append_assoc, length-append}
+use Rattle.std.specs.Prelude.{◌==◌, nat_le, codes}
 use Rattle.std.specs.List.{list_all}
 use Rattle.std.proofs.lemmas.Bool.Decides.{nat_tests}
 use Rattle.fb_frame.specs.Framing.{frame}
 use Rattle.fb_message.specs.declared.reply.Reply.{Reply}
 use Rattle.fb_message.specs.declared.reply.Reply.TheVariants.{Okay, Fail, Info, Text, Load}
-use Rattle.fb_message.specs.ReplyText.{reply_bytes, reply_fits, reply_spelling, reply_of}
+use Rattle.fb_message.specs.ReplyText.{reply_bytes, reply_fits}
 use Rattle.fb_message.proofs.Words.{only-yes}
 use Rattle.fb_message.proofs.Replies.{one_reply}
-use Rattle.dev_model.proofs.Valid.{both, and-true}
+use Rattle.dev_model.proofs.Valid.{both}
 use Rattle.wire_model.specs.Wire.{Wire}
-use Rattle.wire_model.specs.Told.{IsShort}
 use Rattle.wire_model.specs.Answered.{is_line, ends_well, reply_frames, IsListening, IsNext}
 use Rattle.wire_model.proofs.AnswerLemmas.{frame-front}
 

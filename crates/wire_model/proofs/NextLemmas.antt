@@ -1,5 +1,5 @@
 -- The next reply, head and text.
-use Rattle.std.proofs.Common.{◌≡◌, inl, inr, ℕ, ◌+◌, ◌^◌, ◌<◌, ◌≤◌, true, List, ◌++◌, length, take, Option, Some, None, refl, sym, ap, ◌∙◌, subst, arith, append_assoc, length-append, length-take}
+use Rattle.std.proofs.Common.{◌≡◌, ℕ, ◌+◌, ◌^◌, ◌<◌, ◌≤◌, true, List, ◌++◌, length, take, Option, Some, None, refl, sym, ap, ◌∙◌, subst, arith, append_assoc, length-append, length-take}
 use Rattle.std.specs.Int.{w64, from_be_bytes}
 use Rattle.std.proofs.lemmas.Nat.{from_be_bytes-to_be_bytes_8}
 use Rattle.fb_frame.specs.Framing.{head, frame}
@@ -7,7 +7,7 @@ use Rattle.fb_message.specs.declared.reply.Reply.{Reply}
 use Rattle.fb_message.specs.ReplyText.{reply_bytes, reply_fits, reply_of}
 use Rattle.fb_message.proofs.Words.{only-yes, only-inverse}
 use Rattle.fb_message.proofs.Read.{reply_read}
-use Rattle.wire_model.specs.Peers.{Peer, Apart, Joined, device_of, OfLink, OnLink}
+use Rattle.wire_model.specs.Peers.{Peer, Apart, Joined, OfLink, OnLink}
 use Rattle.wire_model.specs.Places.{AppendedReply}
 use Rattle.wire_model.specs.Wire.{Wire}
 use Rattle.wire_model.specs.Told.{Heard, IsHead, HeardHead, HeardReply, HungUp, Gives}
@@ -158,3 +158,5 @@ pub ruleset next_reply = (read-fits, Heard-read, Appended-read, untold-part, Sta
 pub ruleset next_loop = (Next-from, Listening-more, untold-many)
 
 pub ruleset next_hung = (HungUp-stays)
+
+pub ruleset begins_not = (Stays-hung, Stays-none, HungUp-stays)

@@ -1,36 +1,26 @@
 -- What a command's replies leave: a command is awaited again, or data is.
-use Rattle.std.proofs.Common.{◌≡◌, ◌≢◌, ◌⊎◌, inl, inr, ℕ, suc, ◌+◌, ◌-◌, ◌*◌, ◌^◌, ◌<◌, ◌≤◌, Bool, true, false, cond, List, [], ◌∷◌, ◌++◌, length, map, Option, Some, None, refl, sym, ap, ◌∙◌, subst, arith, append_assoc, append-nil, length-append}
-use Rattle.std.specs.Prelude.{◌&&◌, ◌==◌, nat_eq, nat_le, nat_lt, flat_map, codes, IsTrue}
+use Rattle.std.proofs.Common.{◌≡◌, ◌⊎◌, inl, inr, ℕ, ◌+◌, ◌-◌, ◌*◌, ◌^◌, ◌<◌, ◌≤◌, Bool, true, false, cond, List, [], ◌∷◌, ◌++◌, length, Option, Some, None, refl, sym, ap, ◌∙◌, subst, arith, append-nil, length-append}
+use Rattle.std.specs.Prelude.{◌==◌, nat_lt, codes}
 use Rattle.std.specs.List.{list_all}
 use Rattle.std.proofs.lemmas.Bool.Decides.{nat_tests}
 use Rattle.fb_frame.specs.Framing.{frame}
 use Rattle.fb_message.specs.declared.reply.Reply.{Reply}
 use Rattle.fb_message.specs.declared.reply.Reply.TheVariants.{Okay, Fail, Info, Text, Load}
-use Rattle.fb_message.specs.ReplyText.{reply_bytes, reply_fits}
+use Rattle.fb_message.specs.ReplyText.{reply_fits}
 use Rattle.fb_message.specs.CommandText.{CommandValue, GetVar, Download, Flash, Erase, SetActive, Reboot, Continue, Lock, Unlock, UnlockAbility, UpdateSuper, Create, Delete, Resize, Unknown, command_of}
 use Rattle.dev_model.specs.declared.device.Dev.{Dev}
 use Rattle.dev_model.specs.Refusals.{download_refusal}
 use Rattle.dev_model.specs.Validity.{IsValid}
 use Rattle.wire_model.specs.Says.{Loaded, Said, says, awaits}
-use Rattle.wire_model.specs.Wire.{Wire, Command, Data, with_replies, received, awaited, answered, paid, after}
-use Rattle.wire_model.specs.Told.{GoesBy, IsIdle, done, IsNoLoad, StartsPlain, IsReceiving, IsFilled, IsLoaded}
-use Rattle.wire_model.specs.Replied.{failed_in}
-use Rattle.wire_model.specs.Answered.{is_line, ends_well, reply_frames, IsSaid, IsFaulted, IsAnswered, IsListening, IsBetween, IsDue, IsLoadedNow, IsSending, suits}
+use Rattle.wire_model.specs.Wire.{Wire, Command, Data, with_replies, answered, after}
+use Rattle.wire_model.specs.Told.{GoesBy, IsIdle, done, IsNoLoad, StartsPlain, IsReceiving}
+use Rattle.wire_model.specs.Answered.{is_line, ends_well, reply_frames, IsSaid, IsAnswered, IsListening, IsBetween, IsDue, IsLoadedNow, IsSending, IsVerdict, announces, is_announced, suits}
 use Rattle.wire_model.proofs.Going.{goes-plain, goes-after}
 use Rattle.wire_model.proofs.GoesValid.{goes_keeps_valid}
-use Rattle.wire_model.proofs.OneFrames.{length-frame}
 use Rattle.wire_model.proofs.RepliesLemmas.{awaited-plain}
 use Rattle.wire_model.proofs.DataLemmas.{taken, filled, loaded_by}
 use Rattle.wire_model.proofs.ValidReplies.{AllPlain, says-plain, IsNoDownload}
 use Rattle.wire_model.proofs.HearingLemmas.{same-replies}
-
--- OKAY or FAIL
-abbrev pub IsVerdict : Reply → Type 0
-IsVerdict (Okay text) = Unit {0}
-IsVerdict (Fail text) = Unit {0}
-IsVerdict (Info text) = ⊥
-IsVerdict (Text text) = ⊥
-IsVerdict (Load count) = ⊥
 
 verdict-plain : (end : Reply) → IsVerdict end → IsNoLoad end
 verdict-plain (Okay text) v = tt
@@ -116,24 +106,6 @@ one-reply : (w : Wire) (count : ℕ) → (only : Reply) × ((asked_for w count).
 unfolding says
 one-reply w count = awaits-one (download_refusal w.device count) count w.device w.loaded
 
--- FAIL suits every command
-suits-fail : (c : CommandValue) (text : List ℕ) → suits c (Fail text) ≡ true
-suits-fail (GetVar name) text = refl
-suits-fail (Download count) text = refl
-suits-fail (Flash name) text = refl
-suits-fail (Erase name) text = refl
-suits-fail (SetActive slot) text = refl
-suits-fail (Reboot what) text = refl
-suits-fail Continue text = refl
-suits-fail Lock text = refl
-suits-fail Unlock text = refl
-suits-fail UnlockAbility text = refl
-suits-fail (UpdateSuper name wipe) text = refl
-suits-fail (Create name size) text = refl
-suits-fail (Delete name) text = refl
-suits-fail (Resize name size) text = refl
-suits-fail Unknown text = refl
-
 suits-okay : (c : CommandValue) (text : List ℕ) → IsNoDownload c → suits c (Okay text) ≡ true
 suits-okay (GetVar name) text n = refl
 suits-okay (Download count) text n = absurd n
@@ -157,7 +129,7 @@ plain-last (i ∷ infos) end p = plain-last infos end p.1
 
 plain-suits : (c : CommandValue) (end : Reply) → IsNoDownload c → is_line end ≡ false → IsNoLoad end → suits c end ≡ true
 plain-suits c (Okay text) n l p = suits-okay c text n
-plain-suits c (Fail text) n l p = suits-fail c text
+plain-suits c (Fail text) n l p = refl
 plain-suits c (Info text) n l p = absurd cc
 plain-suits c (Text text) n l p = absurd cc
 plain-suits c (Load count) n l p = absurd p
@@ -201,7 +173,7 @@ pub answered-suits : (broke : Type 0) (p : List ℕ) (infos : List Reply) (end :
 answered-suits broke p infos end w u l (inl s) = said-suits w (command_of p) infos end l s.all
 answered-suits broke p infos end w u l (inr f) =
     let s = single infos end (Fail (codes "disk fault")) f.1.told in
-    ap (suits (command_of p)) s.1 ∙ suits-fail (command_of p) (codes "disk fault")
+    ap (suits (command_of p)) s.1
 
 -- A download that was answered by DATA.
 with-load : (count : ℕ) (w : Wire) → Wire
@@ -372,10 +344,40 @@ pub finished : (rs : List Reply) (w u : Wire) → IsSending 0 w → ends_well rs
 finished rs w u s ends fits e =
     let l = loaded-of w s in
     let all = same-replies rs (Okay [] ∷ []) u.out [] ends refl fits refl (sym (ap (λ (x : Wire). x.out) e) ∙ (l.okay ∙ sym (append-nil (reply_frames (Okay [] ∷ []))))) in
-    let P : Dev → Type 0 = λ x. IsValid x in
-    (all.0, record {
-      quiet = all.1;
-      commanding = sym (ap (λ (x : Wire). x.phase) e) ∙ l.commanding;
-      rest = sym (ap (λ (x : Wire). x.rest) e) ∙ s.rest;
-      valid = subst P (ap (λ (x : Wire). x.device) e) s.valid;
-    })
+    let P : Dev → Type 0 = λ x. IsValid x in (
+      all.0,
+      record {
+        quiet = all.1;
+        commanding = sym (ap (λ (x : Wire). x.phase) e) ∙ l.commanding;
+        rest = sym (ap (λ (x : Wire). x.rest) e) ∙ s.rest;
+        valid = subst P (ap (λ (x : Wire). x.device) e) s.valid;
+      },
+    )
+
+-- DATA ends a download of so many bytes alone
+announced-by : (c : CommandValue) (o : Option ℕ) (n : ℕ) → announces c ≡ o → is_announced o n ≡ true → announces c ≡ Some n
+announced-by c None n e f = absurd cc
+announced-by c (Some count) n e f = let h : n ≡ count = grind (arith, nat_tests) in e ∙ ap Some (sym h)
+
+pub suits-load : (c : CommandValue) (n : ℕ) → suits c (Load n) ≡ true → announces c ≡ Some n
+suits-load c n f = announced-by c (announces c) n refl f
+
+some-count-same : (m n : ℕ) → Some m ≡ Some n → m ≡ n
+some-count-same m n e = cc
+
+pub announces-download : (c : CommandValue) (n : ℕ) → announces c ≡ Some n → c ≡ Download n
+announces-download (Download count) n e = ap Download (some-count-same count n e)
+announces-download (GetVar name) n e = absurd cc
+announces-download (Flash name) n e = absurd cc
+announces-download (Erase name) n e = absurd cc
+announces-download (SetActive slot) n e = absurd cc
+announces-download (Reboot what) n e = absurd cc
+announces-download Continue n e = absurd cc
+announces-download Lock n e = absurd cc
+announces-download Unlock n e = absurd cc
+announces-download UnlockAbility n e = absurd cc
+announces-download (UpdateSuper name wipe) n e = absurd cc
+announces-download (Create name size) n e = absurd cc
+announces-download (Delete name) n e = absurd cc
+announces-download (Resize name size) n e = absurd cc
+announces-download Unknown n e = absurd cc

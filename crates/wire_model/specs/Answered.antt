@@ -1,5 +1,5 @@
 -- A command and all of its replies, as a host hears them one after another.
-use Rattle.std.specs.Prelude.{◌≡◌, ◌⊎◌, ℕ, ◌+◌, ◌*◌, ◌^◌, ◌<◌, ◌≤◌, Bool, true, false, not, ◌==◌, List, [], ◌∷◌, ◌++◌, length, flat_map, Option, Some, None, if◌then◌else◌, codes, IsTrue, IsFalse}
+use Rattle.std.specs.Prelude.{◌≡◌, ◌⊎◌, ℕ, ◌+◌, ◌*◌, ◌^◌, ◌<◌, ◌≤◌, Bool, true, false, ◌==◌, List, [], ◌∷◌, ◌++◌, length, flat_map, Option, Some, None, if◌then◌else◌, codes, is_none}
 use Rattle.std.specs.List.{list_all}
 use Rattle.fb_frame.specs.Framing.{frame}
 use Rattle.fb_frame.specs.Causes.{Rose}
@@ -134,21 +134,34 @@ pub record IsSending (left : ℕ) (w : Wire) : Type 0 where
   pub bounded : w.taken + 9 * left < 2 ^ 62
   pub due : ((0 < left) × IsDue left w) ⊎ ((left ≡ 0) × IsLoadedNow w)
 
-abbrev pub Sending : ℕ → Option Peer → Type 0
-Sending left a = OfLink (IsSending left) a
+abbrev pub Downloading : ℕ → Option Peer → Type 0
+Downloading left a = OfLink (IsSending left) a
 
--- the reply may end the command: DATA ends a download alone, with its count, and OKAY doesn't
+-- OKAY or FAIL
+abbrev pub IsVerdict : Reply → Type 0
+IsVerdict (Okay text) = Unit {0}
+IsVerdict (Fail text) = Unit {0}
+IsVerdict (Info text) = ⊥
+IsVerdict (Text text) = ⊥
+IsVerdict (Load count) = ⊥
+
+-- how many bytes the command announces, where it asks for a download
+abbrev pub announces : CommandValue → Option ℕ
+announces (Download count) = Some count
+announces _ = None
+
+-- these bytes are announced
+abbrev pub is_announced : Option ℕ → ℕ → Bool
+is_announced None n = false
+is_announced (Some count) n = n == count
+
+-- The reply may end the command: FAIL ends each, DATA a download of so many bytes, and OKAY all others.
 abbrev pub suits : CommandValue → Reply → Bool
-suits (Download count) (Okay text) = false
-suits (Download count) (Load n) = n == count
-suits (Download count) (Fail text) = true
-suits (Download count) (Info text) = false
-suits (Download count) (Text text) = false
-suits command (Load n) = false
-suits command (Okay text) = true
+suits command (Okay text) = is_none (announces command)
 suits command (Fail text) = true
 suits command (Info text) = false
 suits command (Text text) = false
+suits command (Load n) = is_announced (announces command) n
 
 -- the bytes were taken in whole, and no disk call failed
 abbrev pub Took : Option Peer → Option Peer → List ℕ → Type 0
