@@ -13,7 +13,7 @@ use Rattle.fb_message.specs.Prefixes.{only_if}
 use Rattle.fb_message.specs.declared.command.BootTarget.TheVariants as target
 use Rattle.fb_message.specs.CommandText.{CommandValue, GetVar, Download, Flash, Erase, SetActive, Reboot, Continue, Lock, Unlock, UnlockAbility, UpdateSuper, Create, Delete, Resize, Unknown, spelling, command_of}
 use Rattle.fb_message.specs.declared.reply.Reply.{Reply}
-use Rattle.fb_message.specs.declared.reply.Reply.TheVariants.{Load}
+use Rattle.fb_message.specs.declared.reply.Reply.TheVariants.{Okay, Fail, Info, Text, Load}
 use Rattle.fb_message.specs.ReplyText.{reply_bytes, reply_fits, reply_spelling, reply_of}
 use Rattle.fb_message.proofs.Words.{only-yes, only-inverse}
 use Rattle.fb_message.proofs.Commands.{command_again}
@@ -32,8 +32,9 @@ use Rattle.wire_model.proofs.Going.{goes-plain}
 use Rattle.wire_model.proofs.GoesValid.{goes_keeps_valid}
 use Rattle.wire_model.proofs.OneFrames.{length-frame}
 use Rattle.wire_model.proofs.ToldLemmas.{LeftBy-heard, LeftBy-later, untold-before}
+use Rattle.wire_model.proofs.ChunkLemmas.{Between-finished}
 use Rattle.wire_model.proofs.AnsweredLemmas.{sent-listening, answered-from}
-use Rattle.wire_model.proofs.StateLemmas.{between-again, sending-load, answered-suits, suits-load, announces-download}
+use Rattle.wire_model.proofs.StateLemmas.{finished, between-again, sending-load, answered-suits, suits-load, announces-download}
 use Rattle.fb_link.specs.Lines.{shown_lines}
 use Rattle.fb_link.specs.Heard.{HeardEnd}
 use Rattle.fb_link.specs.Concluded.{Concluded, LeftIn, CommandPasses}
@@ -269,3 +270,40 @@ Free-opened (Some p) (Some (Apart dev)) o = absurd o
 Free-opened (Some p) (Some (Joined w)) o = record { running = o.1.running; bounded = omega (arith, o.1.bounded) }
 
 pub ruleset begins = (Between-opened, Free-opened, Sound-hung)
+
+-- The end of a download.
+pub Between-ended : (n : ℕ) (a b : Option Peer) (h i t u : Option (List ℕ)) (end : Reply) (k : ℕ) → Downloading 0 a → HeardEnd n a b h i t u end k → Between b
+Between-ended n a b h i t u end k s e = Between-finished (e.infos ++ end ∷ []) a b s (ends-of e.infos end e.lines e.ends) e.fits e.told
+
+okay-only : (infos : List Reply) (end : Reply) → infos ++ end ∷ [] ≡ Okay [] ∷ [] → end ≡ Okay []
+okay-only [] end e = cc
+okay-only (i ∷ infos) end e = let n = ap length e in let m = length-append infos (end ∷ []) in absurd (omega (arith, n, m))
+
+on-of : (P : Wire → Type 0) (R : Wire → Wire → Type 0) (Q : Type 0) → ((w v : Wire) → P w → R w v → Q) → (a b : Option Peer) → OfLink P a → OnLink R a b → OfLink (λ w. Q) a
+on-of P R Q f None b p r = tt
+on-of P R Q f (Some (Apart dev)) b p r = absurd p
+on-of P R Q f (Some (Joined w)) None p r = absurd r
+on-of P R Q f (Some (Joined w)) (Some (Apart dev)) p r = absurd r
+on-of P R Q f (Some (Joined w)) (Some (Joined v)) p r = f w v p r
+
+-- a told connection answers OKAY
+pub Okay-ended : (n : ℕ) (a b : Option Peer) (h i t u : Option (List ℕ)) (end : Reply) (k : ℕ) → Downloading 0 a → HeardEnd n a b h i t u end k → OfLink (λ w. end ≡ Okay []) a
+Okay-ended n a b h i t u end k s e =
+    on-of (IsSending 0) (λ w v. w ≡ record v { out = reply_frames (e.infos ++ end ∷ []) ++ v.out }) (end ≡ Okay [])
+    (λ w v p q. okay-only e.infos end (finished (e.infos ++ end ∷ []) w v p (ends-of e.infos end e.lines e.ends) e.fits q).0) a b s e.told
+
+no-load : (m : ℕ) (end : Reply) → end ≡ Load m → end ≡ Okay [] → ⊥
+no-load m end e f = let g : Load m ≡ Okay [] = sym e ∙ f in cc
+
+-- and never DATA
+pub untold-load : (m : ℕ) (a : Option Peer) (end : Reply) → end ≡ Load m → OfLink (λ w. end ≡ Okay []) a → a ≡ None
+untold-load m None end e o = refl
+untold-load m (Some (Apart dev)) end e o = absurd o
+untold-load m (Some (Joined w)) end e o = absurd (no-load m end e o)
+
+pub Verdict-ended : (n : ℕ) (a b : Option Peer) (h i t u : Option (List ℕ)) (end : Reply) (k : ℕ) → HeardEnd n a b h i t u end k → ((m : ℕ) → end ≡ Load m → ⊥) → IsVerdict end
+Verdict-ended n a b h i t u (Okay text) k e f = tt
+Verdict-ended n a b h i t u (Fail text) k e f = tt
+Verdict-ended n a b h i t u (Info text) k e f = absurd (let g : true ≡ false = e.ends in cc)
+Verdict-ended n a b h i t u (Text text) k e f = absurd (let g : true ≡ false = e.ends in cc)
+Verdict-ended n a b h i t u (Load m) k e f = absurd (f m refl)

@@ -1,9 +1,10 @@
 ghost use Rattle.std.specs.Prelude.{◌≡◌, ◌≢◌, ℕ, ◌+◌, ◌-◌, ◌<◌, ◌≤◌, ◌^◌, ◌⊎◌, length, false, None, Ok, Err, IsTrue, IsFalse, IfOk};
 ghost use Rattle.std.specs.Result.{IsErrOf};
 ghost use Rattle.fb_frame.specs.Causes.{Rose};
+ghost use Rattle.fb_frame.specs.Framing.{frame};
 ghost use Rattle.fb_frame.specs.Greeting.{handshake};
 ghost use Rattle.fb_message.specs.CommandText.{command_value, is_written};
-ghost use Rattle.wire_model.specs.Answered.{Between, Free, IsVerdict, Downloading, Sound, is_line};
+ghost use Rattle.wire_model.specs.Answered.{Between, Free, IsVerdict, Downloading, Sound, Took, is_line};
 ghost use Rattle.wire_model.specs.Places.{IsKept};
 ghost use Rattle.wire_model.specs.Told.{HungUp, IsBarred, Opened};
 ghost use Rattle.fb_link.specs.Concluded.{Concluded, LeftIn, CommandPasses, IsUndue};
@@ -11,6 +12,7 @@ ghost use Rattle.fb_link.specs.Heard.{IsWrongLength};
 ghost use Rattle.fb_link.specs.States.{InData};
 
 use crate::command::run;
+use crate::download::send_chunk;
 use crate::open::begin;
 use crate::port::Port;
 use crate::replies::{End, LinkError, Unheard};
@@ -197,6 +199,37 @@ impl<P: Port> Sending<P> {
         ensures { result ≡ self.now.left }
     {
         self.left
+    }
+
+    /// Sends the next bytes of the data in one frame: 1 to 65,536, and no more than are left.
+    pub fn write(self, bytes: &[u8]) -> Result<Sending<P>, (Lost<P>, LinkError)>
+        requires some { 0 < length bytes.now }
+        requires small { length bytes.now ≤ 65536 }
+        requires within { length bytes.now ≤ self.left }
+        ensures left { IfOk result (λ s. s.left ≡ self.left - length bytes.now) }
+        ensures lines { IfOk result (λ s. s.lines ≡ self.lines) }
+        ensures took { IfOk result (λ s. Took (P.peer self.port) (P.peer s.port) (frame bytes.now)) }
+        ensures heard { IfOk result (λ s. P.heard s.port ≡ P.heard self.port) }
+        ensures kept { IfOk result (λ s. IsKept (P.aimed self.port) (P.aimed s.port) (P.last self.port) (P.last s.port) (P.stands self.port) (P.stands s.port)) }
+        ensures down { (lost : _) (e : _) → IsErrOf result (lost, e) → IsFalse (P.up lost) }
+        ensures lost { (lost : _) (e : _) → IsErrOf result (lost, e) → HungUp (P.peer self.port) (P.peer lost) }
+        ensures kept_lost { (lost : _) (e : _) → IsErrOf result (lost, e) → IsKept (P.aimed self.port) (P.aimed lost) (P.last self.port) (P.last lost) (P.stands self.port) (P.stands lost) }
+        ensures cause { (lost : _) (e : _) → IsErrOf result (lost, e) → Rose (P.faults self.port) (P.faults lost) }
+        ensures link { (lost : _) (e : _) → IsErrOf result (lost, e) → e ≡ LinkError.Link }
+    {
+        let Sending {
+            mut port,
+            left,
+            lines,
+        } = self;
+        match send_chunk(&mut port, left, bytes) {
+            Ok(()) => Ok(Sending {
+                port,
+                left: left - bytes.len() as u32,
+                lines,
+            }),
+            Err(_) => Err((Lost { port }, LinkError::Link)),
+        }
     }
 
     /// Ends the connection amid the download.
