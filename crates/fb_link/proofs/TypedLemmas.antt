@@ -32,12 +32,13 @@ use Rattle.wire_model.proofs.Going.{goes-plain}
 use Rattle.wire_model.proofs.GoesValid.{goes_keeps_valid}
 use Rattle.wire_model.proofs.OneFrames.{length-frame}
 use Rattle.wire_model.proofs.ToldLemmas.{LeftBy-heard, LeftBy-later, untold-before}
-use Rattle.wire_model.proofs.ChunkLemmas.{Between-finished}
+use Rattle.wire_model.proofs.ChunkLemmas.{Between-finished, Listening-okay}
+use Rattle.wire_model.proofs.NextLemmas.{Stays-heard}
 use Rattle.wire_model.proofs.AnsweredLemmas.{sent-listening, answered-from}
 use Rattle.wire_model.proofs.StateLemmas.{finished, between-again, sending-load, answered-suits, suits-load, announces-download}
 use Rattle.fb_link.specs.Lines.{shown_lines}
 use Rattle.fb_link.specs.Heard.{HeardEnd}
-use Rattle.fb_link.specs.Concluded.{Concluded, LeftIn, CommandPasses}
+use Rattle.fb_link.specs.Concluded.{Concluded, LeftIn, CommandPasses, IsNoVerdict}
 
 some-same : (x y : List ℕ) → Some x ≡ Some y → x ≡ y
 some-same x y e = cc
@@ -301,9 +302,16 @@ untold-load m None end e o = refl
 untold-load m (Some (Apart dev)) end e o = absurd o
 untold-load m (Some (Joined w)) end e o = absurd (no-load m end e o)
 
-pub Verdict-ended : (n : ℕ) (a b : Option Peer) (h i t u : Option (List ℕ)) (end : Reply) (k : ℕ) → HeardEnd n a b h i t u end k → ((m : ℕ) → end ≡ Load m → ⊥) → IsVerdict end
-Verdict-ended n a b h i t u (Okay text) k e f = tt
-Verdict-ended n a b h i t u (Fail text) k e f = tt
-Verdict-ended n a b h i t u (Info text) k e f = absurd (let g : true ≡ false = e.ends in cc)
-Verdict-ended n a b h i t u (Text text) k e f = absurd (let g : true ≡ false = e.ends in cc)
-Verdict-ended n a b h i t u (Load m) k e f = absurd (f m refl)
+pub Listening-end : (n : ℕ) (a : Option Peer) → n < 10000 → Downloading 0 a → Listening n a
+Listening-end n a h s = Listening-okay n a h s
+
+pub Stays-ended : (n : ℕ) (a b : Option Peer) (h i t u : Option (List ℕ)) (end : Reply) (k : ℕ) → HeardEnd n a b h i t u end k → Stays a b
+Stays-ended n a b h i t u end k e = Stays-heard a b (reply_frames (e.infos ++ end ∷ [])) e.told
+
+pub untold-data : (n : ℕ) (a b : Option Peer) (h i t u : Option (List ℕ)) (m k : ℕ) → Downloading 0 a → HeardEnd n a b h i t u (Load m) k → a ≡ None
+untold-data n a b h i t u m k s e = untold-load m a (Load m) refl (Okay-ended n a b h i t u (Load m) k s e)
+
+pub no-verdict : (count : ℕ) (bytes : List ℕ) → reply_of bytes ≡ Some (Load count) → IsNoVerdict bytes
+no-verdict count bytes e = inr (count, e)
+
+pub ruleset download_ended = (Listening-end, Stays-ended, Between-ended, Okay-ended, untold-data, no-verdict)

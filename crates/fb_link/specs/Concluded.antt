@@ -5,6 +5,7 @@ use Rattle.fb_frame.specs.Framing.{frame}
 use Rattle.fb_frame.specs.Sinks.{Grew}
 use Rattle.fb_message.specs.CommandText.{CommandValue, spelling}
 use Rattle.fb_message.specs.declared.reply.Reply.{Reply}
+use Rattle.fb_message.specs.declared.reply.Reply.TheVariants.{Load}
 use Rattle.fb_message.specs.ReplyText.{reply_of}
 use Rattle.wire_model.specs.Peers.{Peer}
 use Rattle.wire_model.specs.Places.{Appended}
@@ -38,3 +39,7 @@ CommandPasses test a command = (payload : List ℕ) → spelling command ≡ Som
 -- the bytes are no reply, or one that the command doesn't have
 abbrev pub IsUndue : CommandValue → List ℕ → Type 0
 IsUndue command bytes = (reply_of bytes ≡ None) ⊎ ((reply : Reply) × (reply_of bytes ≡ Some reply) × (suits command reply ≡ false))
+
+-- the bytes are no reply, or DATA, which ends no download
+abbrev pub IsNoVerdict : List ℕ → Type 0
+IsNoVerdict bytes = (reply_of bytes ≡ None) ⊎ ((count : ℕ) × (reply_of bytes ≡ Some (Load count)))

@@ -5,8 +5,11 @@ ghost use Rattle.fb_message.specs.CommandText.{command_value, is_written};
 ghost use Rattle.fb_message.specs.ReplyText.{reply_fits, reply_of, reply_spelling};
 ghost use Rattle.wire_model.specs.Answered.{announces, is_announced, suits, Between, Free, IsVerdict, Downloading, Sound};
 ghost use Rattle.wire_model.specs.Places.{IsKept};
-ghost use Rattle.fb_link.specs.Concluded.{Concluded, LeftIn, CommandPasses, IsUndue};
-ghost use Rattle.fb_link.specs.Heard.{IsWrongLength};
+ghost use Rattle.fb_link.specs.Concluded.{Concluded, LeftIn, CommandPasses, IsUndue, IsNoVerdict};
+ghost use Rattle.fb_link.specs.Heard.{HeardEnd, IsWrongLength};
+ghost use Rattle.wire_model.specs.Peers.{OfLink};
+ghost use Rattle.wire_model.specs.Told.{HungUp};
+ghost use Rattle.std.specs.Prelude.{[]};
 
 use crate::host::send_frame;
 use crate::port::Port;
@@ -96,4 +99,51 @@ pub(crate) fn run<P: Port, S: Sink>(
         return Err(Unheard::Broken(LinkError::BadReply(keep(&end.reply))));
     }
     Ok(end)
+}
+
+/// Hears the end of a download; the connection ends where something was wrong. DATA doesn't end one.
+#[tactic(auto, using(crate::proofs::TypedLemmas::download_ended, wire_model::proofs::NextLemmas::next_hung, wire_model::proofs::KeptLemmas::kept))]
+pub(crate) fn end_download<P: Port, S: Sink>(port: &mut P, lines: u32, shown: &mut S) -> Result<End, Unheard>
+    requires up { IsTrue (P.up port.old) }
+    requires sending { Downloading 0 (P.peer port.old) }
+    requires few { lines < 10000 }
+    ensures up { OnOk result (IsTrue (P.up port.new)) }
+    ensures down { OnErr result (IsFalse (P.up port.new)) }
+    ensures ended { IfOk result (λ e. HeardEnd lines (P.peer port.old) (P.peer port.new) (P.heard port.old) (P.heard port.new) (S.text shown.old) (S.text shown.new) e.reply e.lines) }
+    ensures okay { IfOk result (λ e. OfLink (λ w. e.reply ≡ Reply.Okay []) (P.peer port.old)) }
+    ensures verdict { IfOk result (λ e. IsVerdict e.reply) }
+    ensures between { OnOk result (Between (P.peer port.new)) }
+    ensures below { IfOk result (λ e. e.lines < 10000) }
+    ensures left { OnErr result (HungUp (P.peer port.old) (P.peer port.new)) }
+    ensures kept { IsKept (P.aimed port.old) (P.aimed port.new) (P.last port.old) (P.last port.new) (P.stands port.old) (P.stands port.new) }
+    ensures later { P.faults port.old ≤ P.faults port.new }
+    ensures ends { P.ends port.old ≤ P.ends port.new }
+    ensures shown_later { S.faults shown.old ≤ S.faults shown.new }
+    ensures cause { IsErrOf result (Unheard.Broken LinkError.Link) → Rose (P.faults port.old) (P.faults port.new) }
+    ensures end { IsErrOf result (Unheard.Broken LinkError.Ended) → Rose (P.ends port.old) (P.ends port.new) }
+    ensures untold { IsErrOf result (Unheard.Broken LinkError.Ended) → P.peer port.old ≡ None }
+    ensures unshown { IsErrOf result Unheard.Unshown → Rose (S.faults shown.old) (S.faults shown.new) }
+    ensures long { (n : _) → IsErrOf result (Unheard.Broken (LinkError.BadLength n)) → IsWrongLength n }
+    ensures length { (n : _) → IsErrOf result (Unheard.Broken (LinkError.BadLength n)) → P.peer port.old ≡ None }
+    ensures undue { (p : _) → IsErrOf result (Unheard.Broken (LinkError.BadReply p)) → IsNoVerdict p }
+    ensures reply { (p : _) → IsErrOf result (Unheard.Broken (LinkError.BadReply p)) → P.peer port.old ≡ None }
+    ensures shake { (b : _) → IsErrOf result (Unheard.Broken (LinkError.BadHandshake b)) → ⊥ }
+    ensures few { IsErrOf result (Unheard.Broken LinkError.TooManyInfos) → P.peer port.old ≡ None }
+{
+    let End { reply, lines } = hear_end(port, shown, lines)?;
+    match reply {
+        Reply::Okay(line) => Ok(End {
+            reply: Reply::Okay(line),
+            lines,
+        }),
+        Reply::Fail(line) => Ok(End {
+            reply: Reply::Fail(line),
+            lines,
+        }),
+        Reply::Load(count) => {
+            port.hang_up();
+            Err(Unheard::Broken(LinkError::BadReply(keep(&Reply::Load(count)))))
+        }
+        Reply::Info(_) | Reply::Text(_) => unreachable!(),
+    }
 }
