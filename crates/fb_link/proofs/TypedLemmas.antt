@@ -38,7 +38,7 @@ use Rattle.wire_model.proofs.AnsweredLemmas.{sent-listening, answered-from}
 use Rattle.wire_model.proofs.StateLemmas.{finished, between-again, sending-load, answered-suits, suits-load, announces-download}
 use Rattle.fb_link.specs.Lines.{shown_lines}
 use Rattle.fb_link.specs.Heard.{HeardEnd}
-use Rattle.fb_link.specs.Concluded.{Concluded, LeftIn, CommandPasses, IsNoVerdict}
+use Rattle.fb_link.specs.Concluded.{Concluded, LeftIn, CommandPasses, IsNoVerdict, Finished}
 
 some-same : (x y : List ℕ) → Some x ≡ Some y → x ≡ y
 some-same x y e = cc
@@ -314,4 +314,14 @@ untold-data n a b h i t u m k s e = untold-load m a (Load m) refl (Okay-ended n 
 pub no-verdict : (count : ℕ) (bytes : List ℕ) → reply_of bytes ≡ Some (Load count) → IsNoVerdict bytes
 no-verdict count bytes e = inr (count, e)
 
-pub ruleset download_ended = (Listening-end, Stays-ended, Between-ended, Okay-ended, untold-data, no-verdict)
+pub Finished-from : (n : ℕ) (a b : Option Peer) (h i t u : Option (List ℕ)) (end : Reply) (k : ℕ) → HeardEnd n a b h i t u end k → k < 10000 → Finished n a b h i t u end
+Finished-from n a b h i t u end k e few = record {
+  infos = e.infos;
+  lines = e.lines;
+  few = omega (arith, few, e.counted);
+  told = e.told;
+  bytes = e.bytes;
+  shown = e.shown;
+}
+
+pub ruleset download_ended = (Finished-from, Listening-end, Stays-ended, Between-ended, Okay-ended, untold-data, no-verdict)

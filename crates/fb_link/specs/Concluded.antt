@@ -1,5 +1,5 @@
 -- A command that was answered, and one whose connection ended.
-use Rattle.std.specs.Prelude.{◌≡◌, ◌⊎◌, ℕ, ◌<◌, true, false, List, [], ◌∷◌, ◌++◌, length, Option, Some, None}
+use Rattle.std.specs.Prelude.{◌≡◌, ◌⊎◌, ℕ, ◌+◌, ◌<◌, true, false, List, [], ◌∷◌, ◌++◌, length, Option, Some, None}
 use Rattle.std.specs.List.{list_all}
 use Rattle.fb_frame.specs.Framing.{frame}
 use Rattle.fb_frame.specs.Sinks.{Grew}
@@ -9,7 +9,7 @@ use Rattle.fb_message.specs.declared.reply.Reply.TheVariants.{Load}
 use Rattle.fb_message.specs.ReplyText.{reply_of}
 use Rattle.wire_model.specs.Peers.{Peer}
 use Rattle.wire_model.specs.Places.{Appended}
-use Rattle.wire_model.specs.Told.{LeftBy, Passes}
+use Rattle.wire_model.specs.Told.{LeftBy, Heard, Passes}
 use Rattle.wire_model.specs.Turns.{CommandTest}
 use Rattle.wire_model.specs.Answered.{is_line, reply_frames, Answered, suits}
 use Rattle.fb_link.specs.Lines.{shown_lines}
@@ -43,3 +43,13 @@ IsUndue command bytes = (reply_of bytes ≡ None) ⊎ ((reply : Reply) × (reply
 -- the bytes are no reply, or DATA, which ends no download
 abbrev pub IsNoVerdict : List ℕ → Type 0
 IsNoVerdict bytes = (reply_of bytes ≡ None) ⊎ ((count : ℕ) × (reply_of bytes ≡ Some (Load count)))
+
+-- What was heard at a download's end: lines, which with those before are fewer than 10,000 and each of
+-- which was shown in order, and OKAY or FAIL; over a told connection OKAY alone.
+pub record Finished (before : ℕ) (a b : Option Peer) (heard hears : Option (List ℕ)) (text grown : Option (List ℕ)) (end : Reply) : Type 0 where
+  pub infos : List Reply
+  pub lines : list_all is_line infos ≡ true
+  pub few : before + length infos < 10000
+  pub told : Heard a b (reply_frames (infos ++ end ∷ []))
+  pub bytes : Appended heard hears (reply_frames (infos ++ end ∷ []))
+  pub shown : Grew text grown (shown_lines infos)

@@ -3,9 +3,9 @@ ghost use Rattle.std.specs.Result.{IsErrOf};
 ghost use Rattle.fb_frame.specs.Causes.{Rose};
 ghost use Rattle.fb_message.specs.CommandText.{command_value, is_written};
 ghost use Rattle.fb_message.specs.ReplyText.{reply_fits, reply_of, reply_spelling};
-ghost use Rattle.wire_model.specs.Answered.{announces, is_announced, suits, Between, Free, IsVerdict, Downloading, Sound};
+ghost use Rattle.wire_model.specs.Answered.{announces, is_announced, suits, is_line, Between, Free, IsVerdict, Downloading, Sound};
 ghost use Rattle.wire_model.specs.Places.{IsKept};
-ghost use Rattle.fb_link.specs.Concluded.{Concluded, LeftIn, CommandPasses, IsUndue, IsNoVerdict};
+ghost use Rattle.fb_link.specs.Concluded.{Concluded, LeftIn, CommandPasses, IsUndue, IsNoVerdict, Finished};
 ghost use Rattle.fb_link.specs.Heard.{HeardEnd, IsWrongLength};
 ghost use Rattle.wire_model.specs.Peers.{OfLink};
 ghost use Rattle.wire_model.specs.Told.{HungUp};
@@ -103,13 +103,19 @@ pub(crate) fn run<P: Port, S: Sink>(
 
 /// Hears the end of a download; the connection ends where something was wrong. DATA doesn't end one.
 #[tactic(auto, using(crate::proofs::TypedLemmas::download_ended, wire_model::proofs::NextLemmas::next_hung, wire_model::proofs::KeptLemmas::kept))]
-pub(crate) fn end_download<P: Port, S: Sink>(port: &mut P, lines: u32, shown: &mut S) -> Result<End, Unheard>
+pub(crate) fn end_download<P: Port, S: Sink>(
+    port: &mut P,
+    lines: u32,
+    shown: &mut S,
+) -> Result<End, Unheard>
     requires up { IsTrue (P.up port.old) }
     requires sending { Downloading 0 (P.peer port.old) }
     requires few { lines < 10000 }
     ensures up { OnOk result (IsTrue (P.up port.new)) }
     ensures down { OnErr result (IsFalse (P.up port.new)) }
-    ensures ended { IfOk result (λ e. HeardEnd lines (P.peer port.old) (P.peer port.new) (P.heard port.old) (P.heard port.new) (S.text shown.old) (S.text shown.new) e.reply e.lines) }
+    ensures finished { IfOk result (λ e. Finished lines (P.peer port.old) (P.peer port.new) (P.heard port.old) (P.heard port.new) (S.text shown.old) (S.text shown.new) e.reply) }
+    ensures line { IfOk result (λ e. is_line e.reply ≡ false) }
+    ensures sending { IfOk result (λ e. (n : _) → e.reply ≡ Reply.Load n → Downloading n (P.peer port.new)) }
     ensures okay { IfOk result (λ e. OfLink (λ w. e.reply ≡ Reply.Okay []) (P.peer port.old)) }
     ensures verdict { IfOk result (λ e. IsVerdict e.reply) }
     ensures between { OnOk result (Between (P.peer port.new)) }

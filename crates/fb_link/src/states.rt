@@ -7,11 +7,11 @@ ghost use Rattle.fb_message.specs.CommandText.{command_value, is_written};
 ghost use Rattle.wire_model.specs.Answered.{Between, Free, IsVerdict, Downloading, Sound, Took, is_line};
 ghost use Rattle.wire_model.specs.Places.{IsKept};
 ghost use Rattle.wire_model.specs.Told.{HungUp, IsBarred, Opened};
-ghost use Rattle.fb_link.specs.Concluded.{Concluded, LeftIn, CommandPasses, IsUndue};
+ghost use Rattle.fb_link.specs.Concluded.{Concluded, LeftIn, CommandPasses, IsUndue, IsNoVerdict, Finished};
 ghost use Rattle.fb_link.specs.Heard.{IsWrongLength};
 ghost use Rattle.fb_link.specs.States.{InData};
 
-use crate::command::run;
+use crate::command::{end_download, run};
 use crate::download::send_chunk;
 use crate::open::begin;
 use crate::port::Port;
@@ -229,6 +229,38 @@ impl<P: Port> Sending<P> {
                 lines,
             }),
             Err(_) => Err((Lost { port }, LinkError::Link)),
+        }
+    }
+
+    /// Hears the end of the download, when no data is left to send. Each INFO and TEXT before it is shown.
+    pub fn finish<S: Sink>(self, shown: &mut S) -> Answer<P>
+        requires all { self.left ≡ 0 }
+        ensures okay { (ready : _) (line : _) → result ≡ Answer.Okay ready line → Finished self.lines (P.peer self.port) (P.peer ready) (P.heard self.port) (P.heard ready) (S.text shown.old) (S.text shown.new) (Reply.Okay line) }
+        ensures fail { (ready : _) (line : _) → result ≡ Answer.Fail ready line → Finished self.lines (P.peer self.port) (P.peer ready) (P.heard self.port) (P.heard ready) (S.text shown.old) (S.text shown.new) (Reply.Fail line) }
+        ensures down { (lost : _) (e : _) → result ≡ Answer.Broken lost e → IsFalse (P.up lost) }
+        ensures left { (lost : _) (e : _) → result ≡ Answer.Broken lost e → HungUp (P.peer self.port) (P.peer lost) }
+        ensures unshown_down { (lost : _) → result ≡ Answer.Unshown lost → IsFalse (P.up lost) }
+        ensures unshown_left { (lost : _) → result ≡ Answer.Unshown lost → HungUp (P.peer self.port) (P.peer lost) }
+        ensures unshown { (lost : _) → result ≡ Answer.Unshown lost → Rose (S.faults shown.old) (S.faults shown.new) }
+        ensures cause { (lost : _) → result ≡ Answer.Broken lost LinkError.Link → Rose (P.faults self.port) (P.faults lost) }
+        ensures end { (lost : _) → result ≡ Answer.Broken lost LinkError.Ended → Rose (P.ends self.port) (P.ends lost) }
+        ensures untold { (lost : _) → result ≡ Answer.Broken lost LinkError.Ended → P.peer self.port ≡ None }
+        ensures long { (lost : _) (n : _) → result ≡ Answer.Broken lost (LinkError.BadLength n) → IsWrongLength n }
+        ensures length { (lost : _) (n : _) → result ≡ Answer.Broken lost (LinkError.BadLength n) → P.peer self.port ≡ None }
+        ensures undue { (lost : _) (p : _) → result ≡ Answer.Broken lost (LinkError.BadReply p) → IsNoVerdict p }
+        ensures reply { (lost : _) (p : _) → result ≡ Answer.Broken lost (LinkError.BadReply p) → P.peer self.port ≡ None }
+        ensures shake { (lost : _) (four : _) → result ≡ Answer.Broken lost (LinkError.BadHandshake four) → ⊥ }
+        ensures few { (lost : _) → result ≡ Answer.Broken lost LinkError.TooManyInfos → P.peer self.port ≡ None }
+    {
+        let Sending {
+            mut port,
+            lines,
+            ..
+        } = self;
+        match end_download(&mut port, lines, shown) {
+            Ok(end) => conclude(port, end),
+            Err(Unheard::Broken(error)) => Answer::Broken(Lost { port }, error),
+            Err(Unheard::Unshown) => Answer::Unshown(Lost { port }),
         }
     }
 
