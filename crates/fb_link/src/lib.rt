@@ -10,3 +10,4 @@ pub mod open;
 pub mod port;
 pub mod replies;
 pub mod states;
+pub mod tcp_port;
