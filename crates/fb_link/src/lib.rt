@@ -9,5 +9,6 @@ pub mod lines;
 pub mod open;
 pub mod port;
 pub mod replies;
+pub mod script_port;
 pub mod states;
 pub mod tcp_port;
