@@ -23,7 +23,7 @@ shake-not-data count got e = cc
 command-not-data : (count : ℕ) (got : List ℕ) → Command ≢ Data count got
 command-not-data count got e = cc
 
-data-frame : (spare count : ℕ) (got p : List ℕ) (w : Wire) → IsReceiving spare count got w → 0 < length p → length got + length p ≤ count → length p ≤ 65536 → OneFrame p (frame p) w
+pub data-frame : (spare count : ℕ) (got p : List ℕ) (w : Wire) → IsReceiving spare count got w → 0 < length p → length got + length p ≤ count → length p ≤ 65536 → OneFrame p (frame p) w
 data-frame spare count got p w i some h s = record {
   running = i.running;
   quiet = i.quiet;
@@ -50,7 +50,7 @@ MaySend-data test k l spare count got p head_bytes a b r some h s e g =
     (λ w v i q. payload-front test (Rose k l) p head_bytes e w v (data-passes test spare count got p w i) (data-frame spare count got p w i some h s) q) a b r g
 
 -- a whole frame of data is taken as it is: nothing breaks
-taken : (broke : Type 0) (spare count : ℕ) (got p : List ℕ) (w v : Wire) → IsReceiving spare count got w → 0 < length p → length got + length p ≤ count → length p ≤ 65536 → GoesBy broke w (frame p) v → v ≡ record (received count (got ++ p) w) { rest = []; taken = w.taken + length (frame p) }
+pub taken : (broke : Type 0) (spare count : ℕ) (got p : List ℕ) (w v : Wire) → IsReceiving spare count got w → 0 < length p → length got + length p ≤ count → length p ≤ 65536 → GoesBy broke w (frame p) v → v ≡ record (received count (got ++ p) w) { rest = []; taken = w.taken + length (frame p) }
 taken broke spare count got p w v i some h s g =
     pick (goes-whole broke p (frame p) w v (data-frame spare count got p w i some h s) g)
   where
@@ -68,7 +68,7 @@ received-all count got w n h =
     let e : nat_eq (length got) count ≡ true = grind (arith, nat_tests) in
     ap (λ b. record (cond b (record w { out = w.out ++ frame (codes "OKAY"); loaded = Some got; phase = Command }) (record w { phase = Data count got })) { rest = []; taken = n }) e
 
-filled : (broke : Type 0) (spare count : ℕ) (got p : List ℕ) (w v : Wire) → IsReceiving spare count got w → 0 < length p → length got + length p < count → length p ≤ 65536 → GoesBy broke w (frame p) v → IsFilled spare count (got ++ p) w v
+pub filled : (broke : Type 0) (spare count : ℕ) (got p : List ℕ) (w v : Wire) → IsReceiving spare count got w → 0 < length p → length got + length p < count → length p ≤ 65536 → GoesBy broke w (frame p) v → IsFilled spare count (got ++ p) w v
 filled broke spare count got p w v i some h s g =
     let m = length-append got p in
     let e = taken broke spare count got p w v i some (omega arith) s g ∙ received-more count (got ++ p) w (w.taken + length (frame p)) (omega arith) in
@@ -88,7 +88,7 @@ Filled-more k l spare count got p a b r some h s g =
     with-on (IsReceiving spare count got) (λ w v. GoesBy (Rose k l) w (frame p) v) (IsFilled spare count (got ++ p))
     (λ w v i q. filled (Rose k l) spare count got p w v i some h s q) a b r g
 
-loaded_by : (broke : Type 0) (spare count : ℕ) (got p : List ℕ) (w v : Wire) → IsReceiving spare count got w → 0 < length p → length got + length p ≡ count → length p ≤ 65536 → GoesBy broke w (frame p) v → IsLoaded spare (got ++ p) w v
+pub loaded_by : (broke : Type 0) (spare count : ℕ) (got p : List ℕ) (w v : Wire) → IsReceiving spare count got w → 0 < length p → length got + length p ≡ count → length p ≤ 65536 → GoesBy broke w (frame p) v → IsLoaded spare (got ++ p) w v
 loaded_by broke spare count got p w v i some h s g =
     let m = length-append got p in
     let e = taken broke spare count got p w v i some (omega arith) s g ∙ received-all count (got ++ p) w (w.taken + length (frame p)) (omega arith) in
@@ -184,7 +184,7 @@ less-or-not : (m n : ℕ) → (nat_lt m n ≡ true) ⊎ (nat_lt m n ≡ false) �
 less-or-not m n (inl e) = inl (let h : m < n = grind (arith, nat_tests) in h)
 less-or-not m n (inr e) = inr (let h : n ≤ m = grind (arith, nat_tests) in h)
 
-data-left : (broke : Type 0) (spare count : ℕ) (got p : List ℕ) → 0 < length p → length got + length p ≤ count → length p ≤ 65536 → (w : Wire) (dev : Dev) → IsReceiving spare count got w → IsLeft broke (frame p) w dev → dev ≡ w.device
+pub data-left : (broke : Type 0) (spare count : ℕ) (got p : List ℕ) → 0 < length p → length got + length p ≤ count → length p ≤ 65536 → (w : Wire) (dev : Dev) → IsReceiving spare count got w → IsLeft broke (frame p) w dev → dev ≡ w.device
 data-left broke spare count got p some h s w dev i r =
     r.device ∙ data-same broke spare count got p r.count w r.state i some h s (less-or-not r.count (length (frame p)) (told (nat_lt r.count (length (frame p))))) r.goes
 

@@ -73,6 +73,20 @@ untold-greeting k l a b c bytes four i e g h n ne =
     on-none (λ w v. four ≡ handshake 1) (λ w v q. ne q) a c
     (on-then (Both k l bytes) (λ w v. w ≡ record v { out = four ++ v.out }) (λ w v. four ≡ handshake 1) (four-so four n) a b c (both k l a b bytes i e g) h)
 
+none-on : (R : Wire → Wire → Type 0) → ((w v : Wire) → R w v → ⊥) → (a b : Option Peer) → OnLink R a b → b ≡ None
+none-on R f None None r = refl
+none-on R f None (Some q) r = absurd r
+none-on R f (Some (Apart dev)) b r = absurd r
+none-on R f (Some (Joined w)) None r = absurd r
+none-on R f (Some (Joined w)) (Some (Apart dev)) r = absurd r
+none-on R f (Some (Joined w)) (Some (Joined v)) r = absurd (f w v r)
+
+-- and none is told behind it
+pub gone-greeting : (k l : ℕ) (a b c : Option Peer) (bytes four : List ℕ) → Begun a → bytes ≡ handshake 1 → Sent k l a b bytes → Heard b c four → length four ≡ 4 → four ≢ handshake 1 → c ≡ None
+gone-greeting k l a b c bytes four i e g h n ne =
+    none-on (λ w v. four ≡ handshake 1) (λ w v q. ne q) a c
+    (on-then (Both k l bytes) (λ w v. w ≡ record v { out = four ++ v.out }) (λ w v. four ≡ handshake 1) (four-so four n) a b c (both k l a b bytes i e g) h)
+
 less-or-not : (m n : ℕ) → (nat_lt m n ≡ true) ⊎ (nat_lt m n ≡ false) → (m < n) ⊎ (n ≤ m)
 less-or-not m n (inl e) = inl (let h : m < n = grind (arith, nat_tests) in h)
 less-or-not m n (inr e) = inr (let h : n ≤ m = grind (arith, nat_tests) in h)
@@ -103,7 +117,7 @@ pub Lost-greeted : (k l : ℕ) (a b c : Option Peer) (bytes : List ℕ) → Begu
 Lost-greeted k l a b c bytes i e g h =
     on-hung (Both k l bytes) (λ w dev. dev ≡ w.device) (λ w u p. ap (λ (x : Wire). x.device) p.0) a b c (both k l a b bytes i e g) h
 
-pub ruleset greets = (MaySend-greeting, Gives-greeting, Greeted-from, untold-greeting, Lost-greeting, Lost-greeted)
+pub ruleset greets = (MaySend-greeting, Gives-greeting, Greeted-from, untold-greeting, gone-greeting, Lost-greeting, Lost-greeted)
 
 -- behind the handshakes a connection is idle
 idle-greeted : (spare : ℕ) → spare + 4 < 2 ^ 62 → (w v : Wire) → IsFresh w → v ≡ record w { phase = Command; rest = []; taken = w.taken + 4; out = [] } → IsIdle spare v

@@ -44,7 +44,7 @@ done-now spare p answer w v u i short h e f =
       state = state;
     }
 
-failed-now : (spare : ℕ) (p answer : List ℕ) (w v u : Wire) → IsIdle spare w → length answer ≤ 256 → IsBroken p (length (frame p)) w v → v ≡ record u { out = frame answer ++ u.out } → IsFailed p answer w u
+pub failed-now : (spare : ℕ) (p answer : List ℕ) (w v u : Wire) → IsIdle spare w → length answer ≤ 256 → IsBroken p (length (frame p)) w v → v ≡ record u { out = frame answer ++ u.out } → IsFailed p answer w u
 failed-now spare p answer w v u i h b f =
     let o : frame answer ++ u.out ≡ frame disk_fault ++ [] = sym (ap (λ (x : Wire). x.out) f) ∙ broken-out p (length (frame p)) w v i.quiet b in
     let s = frame-front answer disk_fault u.out [] (omega (arith, h)) (omega arith) o in

@@ -21,7 +21,7 @@ fused : (replies : List Reply) → flat_map (λ reply. frame (reply_bytes reply)
 fused [] = refl
 fused (r ∷ replies) = ap (λ t. frame (reply_bytes r) ++ t) (fused replies)
 
-awaited-plain : (replies : List Reply) (w : Wire) → StartsPlain replies → awaited replies w ≡ w
+pub awaited-plain : (replies : List Reply) (w : Wire) → StartsPlain replies → awaited replies w ≡ w
 awaited-plain [] w s = refl
 awaited-plain (Load count ∷ replies) w s = absurd s
 awaited-plain (Okay text ∷ replies) w s = refl

@@ -170,20 +170,30 @@ pub HungUp-more : (a b c : Option Peer) (bytes : List ℕ) → Heard a b bytes �
 HungUp-more a b c bytes f g =
     kept-hung (λ w v. w ≡ record v { out = bytes ++ v.out }) (λ w u e. sym (ap (λ (x : Wire). x.device) e)) a b c f g
 
-hung-none : (a b c : Option Peer) (x y : List ℕ) → Heard a b x → Heard b c y → b ≡ None → HungUp a c
-hung-none None b None x y f g e = tt
-hung-none None b (Some q) x y f g e = subst (λ p. OnLink (λ w v. w ≡ record v { out = y ++ v.out }) p (Some q)) e g
-hung-none (Some p) b c x y f g e = absurd (off p (subst (λ q. OnLink (λ w v. w ≡ record v { out = x ++ v.out }) (Some p) q) e f))
+pub heard-none : (a b : Option Peer) (x : List ℕ) → Heard a b x → b ≡ None → a ≡ None
+heard-none None b x f e = refl
+heard-none (Some p) b x f e = absurd (off p (subst (λ q. OnLink (λ w v. w ≡ record v { out = x ++ v.out }) (Some p) q) e f))
   where
     off : (p : Peer) → OnLink (λ w v. w ≡ record v { out = x ++ v.out }) (Some p) None → ⊥
     off (Apart dev) r = r
     off (Joined w) r = r
 
--- and none ended where there was more to give
-pub HungUp-end : (a b c : Option Peer) (x y : List ℕ) (n : ℕ) → Heard a b x → Heard b c y → Gives b n → 0 < n → AtEnd b → HungUp a c
-HungUp-end a b c x y n f g h i e = hung-none a b c x y f g (not-at-end b n h i e)
+-- the connection ended where there was more to give: none is told
+pub untold-end : (a b c : Option Peer) (x y : List ℕ) (n : ℕ) → Heard a b x → Heard b c y → Gives b n → 0 < n → AtEnd b → a ≡ None
+untold-end a b c x y n f g h i e = heard-none a b x f (not-at-end b n h i e)
 
-pub ruleset hear_loop = (Heard-more, Heard-nothing, Gives-rest, MayHear-from, HungUp-more, HungUp-end)
+heard-gone : (a b : Option Peer) (x : List ℕ) → Heard a b x → a ≡ None → b ≡ None
+heard-gone None None x f e = refl
+heard-gone None (Some p) x f e = absurd f
+heard-gone (Some p) b x f e = absurd (some-none p e)
+  where
+    some-none : (q : Peer) → Some q ≡ None → ⊥
+    some-none q h = cc
+
+pub gone-end : (b c : Option Peer) (y : List ℕ) (n : ℕ) → Heard b c y → Gives b n → 0 < n → AtEnd b → c ≡ None
+gone-end b c y n g h i e = heard-gone b c y g (not-at-end b n h i e)
+
+pub ruleset hear_loop = (Heard-more, Heard-nothing, Gives-rest, MayHear-from, HungUp-more, untold-end, gone-end)
 
 -- One frame of a command, head and payload.
 shake-not-command : Shake ≢ Command
@@ -320,14 +330,6 @@ Heard-text a b c text behind n f g e =
     let whole : take n (text ++ behind) ≡ text = ap (λ k. take k (text ++ behind)) (sym e) ∙ take-append_seam text behind in
     subst (λ t. Heard a c (frame t)) (sym whole) (Heard-append a b c (head (length text)) text (subst (λ k. Heard a b (head k)) (sym e) f) g)
 
-heard-none : (a b : Option Peer) (x : List ℕ) → Heard a b x → b ≡ None → a ≡ None
-heard-none None b x f e = refl
-heard-none (Some p) b x f e = absurd (off p (subst (λ q. OnLink (λ w v. w ≡ record v { out = x ++ v.out }) (Some p) q) e f))
-  where
-    off : (p : Peer) → OnLink (λ w v. w ≡ record v { out = x ++ v.out }) (Some p) None → ⊥
-    off (Apart dev) r = r
-    off (Joined w) r = r
-
 -- no told connection owes more than a reply
 pub untold-long : (a b : Option Peer) (n : ℕ) → HeardHead a b n → Owes b n → 256 < n → a ≡ None
 unfolding HeardHead
@@ -340,7 +342,12 @@ HungUp-head a b c n f g = HungUp-more a b c (head n) f g
 
 pub ruleset hear_start = (Owes-from, Gives-head, Heard-head)
 
-pub ruleset hear_frame = (Gives-owed, Heard-text, untold-long, HungUp-head)
+-- what is told of no connection behind a head was told of none before it
+pub untold-head : (a b : Option Peer) (n : ℕ) → HeardHead a b n → b ≡ None → a ≡ None
+unfolding HeardHead
+untold-head a b n f e = heard-none a b (head n) f e
+
+pub ruleset hear_frame = (Gives-owed, Heard-text, untold-long, untold-head, HungUp-head)
 
 asked : (k l m : ℕ) → k ≤ l → l ≤ m → (payload answer : List ℕ) (w v u : Wire) → GoesBy (Rose k l) w (frame payload) v → v ≡ record u { out = frame answer ++ u.out } → IsAsked (Rose k m) payload answer w u
 asked k l m i j payload answer w v u g h = record { state = v; goes = goes-weaker (Rose k l) (Rose k m) (rose-from k l m i j) w v (frame payload) g; heard = h }

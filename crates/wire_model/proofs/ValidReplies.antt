@@ -357,7 +357,7 @@ text-fits (Info text) n s = let h : length text ≤ 252 = omega (arith, s, lengt
 text-fits (Text text) n s = let h : length text ≤ 252 = omega (arith, s, length-append (codes "TEXT") text) in grind (arith, nat_tests)
 text-fits (Load count) n s = absurd n
 
-abbrev AllPlain : List Reply → Type 0
+abbrev pub AllPlain : List Reply → Type 0
 AllPlain [] = Unit {0}
 AllPlain (reply ∷ replies) = IsNoLoad reply × AllPlain replies
 
@@ -389,7 +389,7 @@ abbrev pub IsNoDownload : CommandValue → Type 0
 IsNoDownload (Download count) = ⊥
 IsNoDownload _ = Unit {0}
 
-says-plain : (dev : Dev) (loaded : Loaded) (c : CommandValue) → IsNoDownload c → AllPlain (says dev loaded c).replies
+pub says-plain : (dev : Dev) (loaded : Loaded) (c : CommandValue) → IsNoDownload c → AllPlain (says dev loaded c).replies
 unfolding says all_rows
 says-plain dev loaded (GetVar name) n = either-plain (bytes_eq name (codes "all")) (tells_all dev) (tells (value dev name)) (infos-plain (all_rows dev)) (tells-plain (value dev name))
 says-plain dev loaded (Download count) n = absurd n

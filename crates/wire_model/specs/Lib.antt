@@ -10,3 +10,4 @@ pub mod FirstPath
 pub mod Told
 pub mod Places
 pub mod Replied
+pub mod Answered

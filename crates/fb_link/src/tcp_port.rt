@@ -1,0 +1,120 @@
+ghost use Rattle.std.specs.Prelude.{◌≡◌, ◌≤◌, true, None, is_some, refl, OnErr};
+ghost use Rattle.fb_frame.specs.Causes.{HasCause};
+
+use crate::port::{AimError, LinkFault, Port, Target};
+use std::alloc::Global;
+use std::io::{Read, Write};
+use std::net::{Net, SocketAddr, ToSocketAddrs};
+
+/// A port over TCP: the trusted edge. It tells nothing of its other end, and takes an image for one that
+/// can't be reached.
+#[derive(Drop)]
+pub struct TcpPort<R: Net + Drop> {
+    net: R,
+    address: Option<SocketAddr>,
+    stream: Option<R::Stream>,
+    faults: u64,
+    ends: u64,
+}
+
+impl<R: Net + Drop> TcpPort<R> {
+    /// A port that is aimed at nothing.
+    pub fn new(net: R) -> TcpPort<R> {
+        TcpPort {
+            net,
+            address: None,
+            stream: None,
+            faults: 0,
+            ends: 0,
+        }
+    }
+}
+
+/// The first address of a host.
+fn look_up<R: Net>(net: &R, host: &str, port: u16) -> Option<SocketAddr> {
+    let Ok(mut found) = (host, port).to_socket_addrs(net) else {
+        return None;
+    };
+    found.next()
+}
+
+impl<R: Net + Drop> Port for TcpPort<R> {
+    ghost peer = { λ p. None };
+
+    ghost up = { λ p. is_some p.stream };
+
+    ghost aimed = { λ p. is_some p.address };
+
+    ghost last = { λ p. None };
+
+    ghost stands = { λ p. None };
+
+    ghost heard = { λ p. None };
+
+    ghost takes = { λ loaded payload. true };
+
+    ghost faults = { λ p. p.faults };
+
+    ghost ends = { λ p. p.ends };
+
+    fn aim(&mut self, _alloc: Global, target: &Target<'_>) -> Result<(), AimError> {
+        self.stream = None;
+        self.address = match target {
+            Target::Tcp(host, port) => look_up(&self.net, host, *port),
+            Target::Image(_) => None,
+        };
+        if self.address.is_none() {
+            self.faults = self.faults.saturating_add(1);
+            return Err(AimError::Link);
+        }
+        Ok(())
+    }
+
+    fn connect(&mut self) -> Result<(), LinkFault> {
+        self.stream = None;
+        let Some(address) = self.address else {
+            unreachable!()
+        };
+        let Ok(stream) = self.net.connect(address) else {
+            self.faults = self.faults.saturating_add(1);
+            return Err(LinkFault);
+        };
+        self.stream = Some(stream);
+        Ok(())
+    }
+
+    fn send(&mut self, bytes: &[u8]) -> Result<usize, LinkFault> {
+        let Some(stream) = &mut self.stream else {
+            unreachable!()
+        };
+        if let Ok(n) = stream.write(bytes) {
+            if n > 0 || bytes.is_empty() {
+                return Ok(n);
+            }
+        }
+        self.stream = None;
+        self.faults = self.faults.saturating_add(1);
+        Err(LinkFault)
+    }
+
+    fn recv(&mut self, buf: &mut [u8]) -> Result<usize, LinkFault> {
+        let Some(stream) = &mut self.stream else {
+            unreachable!()
+        };
+        let Ok(n) = stream.read(buf) else {
+            self.stream = None;
+            self.faults = self.faults.saturating_add(1);
+            return Err(LinkFault);
+        };
+        if n == 0 && !buf.is_empty() {
+            self.ends = self.ends.saturating_add(1);
+        }
+        Ok(n)
+    }
+
+    fn hang_up(&mut self) {
+        self.stream = None;
+    }
+
+    ghost takes_first = { λ loaded payload first. refl };
+}
