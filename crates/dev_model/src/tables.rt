@@ -2,11 +2,13 @@ ghost use Rattle.std.specs.Prelude.{◌≡◌, ◌%◌, length, not, nat_le, nat
 ghost use Rattle.std.specs.List.{list_any, ends_with};
 ghost use Rattle.fb_frame.specs.Slots.{suffix};
 ghost use Rattle.dev_model.specs.Partitions.{has_slots, is_physical, is_super};
+ghost use Rattle.dev_model.specs.RefusalTexts.{text_of};
 ghost use Rattle.dev_model.specs.Sizes.{size_of, sizes_of, share_of, group_bytes, groups_fit, less};
 ghost use Rattle.dev_model.specs.Tables.{is_group, is_listed, is_kept, is_left_over, kept, kept_bytes, listed, left_over, merged, is_bad_table, table_refusal};
 
 use crate::device::{Dev, Logical};
 use crate::partitions::{has_slots, is_physical, is_super};
+use crate::refusal::Refusal;
 use crate::sizes::{less, share};
 use fb_frame::tables::{TableGroup, TablePartition, Tables};
 
@@ -201,17 +203,17 @@ fn are_too_many(tables: &Tables, wipe: bool, dev: &Dev) -> bool
 }
 
 /// Why the device refuses a table, None where it takes it.
-pub fn table_refusal(tables: &Tables, wipe: bool, dev: &Dev) -> Option<&'static [u8]>
-    ensures { option_map (λ text. text.now) result ≡ table_refusal tables.now wipe dev.now }
+pub fn table_refusal(tables: &Tables, wipe: bool, dev: &Dev) -> Option<Refusal>
+    ensures { option_map text_of result ≡ table_refusal tables.now wipe dev.now }
 {
     if is_bad_table(tables, dev) {
-        Some(b"bad table".as_slice())
+        Some(Refusal::BadTable)
     } else if are_too_many(tables, wipe, dev) {
-        Some(b"too many partitions".as_slice())
+        Some(Refusal::TooManyPartitions)
     } else if lacks_group(tables, wipe, dev) {
-        Some(b"no such group".as_slice())
+        Some(Refusal::NoSuchGroup)
     } else if !merged_groups_fit(tables, wipe, dev) {
-        Some(b"group full".as_slice())
+        Some(Refusal::GroupFull)
     } else {
         None
     }
