@@ -27,7 +27,8 @@ use Rattle.fb_frame.specs.declared.tables.TableGroup.{TableGroup}
 use Rattle.dev_model.specs.Partitions.{has_slots, is_userspace, is_partition}
 use Rattle.dev_model.specs.Tables.{is_group}
 use Rattle.dev_model.specs.Validity.{IsValid, is_between, is_label, is_value, is_variable, own_names, is_whole, is_sized, is_flags, is_blank, is_first, slots_are_good, is_entry, are_attributes, all_names, are_distinct}
-use Rattle.dev_model.specs.Variables.{Row, yes_or_no, with_slots_only, super_row, device_rows, slot_rows, partition_rows, plain_rows, has_slot, text_of, slotted_name, value, base_name, first_ones, base_names, has_slot_row, all_rows}
+use Rattle.std.specs.Map.{lookup}
+use Rattle.dev_model.specs.Variables.{Row, yes_or_no, with_slots_only, super_row, device_rows, slot_rows, partition_rows, plain_rows, has_slot, slotted_name, value, base_name, first_ones, base_names, has_slot_row, all_rows}
 use Rattle.dev_model.proofs.Valid.{both, and-true}
 use Rattle.wire_model.specs.Peers.{Peer, OfLink}
 use Rattle.dev_model.specs.Refusals.{flash_refusal, erase_refusal, active_refusal, download_refusal, lock_refusal, create_refusal, delete_refusal, resize_refusal, update_refusal}
@@ -294,6 +295,10 @@ infos-short [] f = All-cons IsShort (reply_bytes (Okay [])) [] (omega arith) (Al
 infos-short (row ∷ rows) f =
     All-cons IsShort (reply_bytes (Info (row.0 ++ 58 ∷ row.1))) _
     (omega (arith, f.0, length-append row.0 (58 ∷ row.1), length-append (codes "INFO") (row.0 ++ 58 ∷ row.1))) (infos-short rows f.1)
+
+-- the text that stands beside the name
+abbrev text_of : List ℕ → List Row → Option (List ℕ)
+text_of name rows = lookup (λ n. bytes_eq n name) rows
 
 text-short : (name : List ℕ) (rows : List Row) (text : List ℕ) → AllFit rows → text_of name rows ≡ Some text → length text ≤ 251
 text-short name [] text f e = absurd cc

@@ -1,5 +1,6 @@
 pub mod TableFile
 pub mod Says
+pub mod Answers
 pub mod Wire
 pub mod Halts
 pub mod Laws

@@ -1,0 +1,8 @@
+use Rattle.std.proofs.Common.{◌≡◌, map, take}
+use Rattle.dev_model.specs.Changes.{changed}
+use Rattle.dev_model.specs.Partitions.{logical_changed}
+use Rattle.dev_model.proofs.changes.changed_logical.Given as goal
+
+-- the partitions that were passed are changed
+abbrev pub invariant-loop-part : goal.invariant-loop-part
+invariant-loop-part l = l.copied ≡ map (logical_changed l.name (changed l.change)) (take l.part-index l.parts)

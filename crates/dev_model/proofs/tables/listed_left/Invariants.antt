@@ -1,0 +1,8 @@
+use Rattle.std.proofs.Common.{◌≡◌, drop}
+use Rattle.dev_model.specs.Sizes.{sizes_of, group_bytes, less}
+use Rattle.dev_model.specs.Tables.{kept, listed}
+use Rattle.dev_model.proofs.tables.listed_left.Given as goal
+
+-- what the partitions that follow take is to be taken of what is left
+abbrev pub invariant-loop-part : goal.invariant-loop-part
+invariant-loop-part l = less (group_bytes l.group.name (sizes_of (listed (record l.tables { partitions = drop l.part-index l.tables.partitions }) (kept l.dev l.wipe)))) l.left ≡ less (group_bytes l.group.name (sizes_of (listed l.tables (kept l.dev l.wipe)))) l.group.limit

@@ -1,0 +1,28 @@
+use Rattle.std.proofs.Common.{[], ◌∷◌, ap, ◌∙◌}
+use Rattle.fb_message.specs.declared.reply.Reply.TheVariants.{Okay}
+use Rattle.dev_model.specs.declared.step.Step.TheVariants as step
+use Rattle.dev_model.specs.Refusals.{resize_refusal}
+use Rattle.dev_model.specs.Steps.{apply}
+use Rattle.wire_model.specs.Answers.{answer_of}
+use Rattle.wire_model.specs.Says.{answers, says}
+use Rattle.wire_model.proofs.DecidedLemmas.{refuses, takes}
+use Rattle.wire_model.proofs.says.resize.Goals as goal
+
+pub returns-in-Some : goal.returns-in-Some
+unfolding says
+returns-in-Some c =
+    let dev = c.args.dev.now in
+    let name = c.args.name.now in
+    let size = c.args.size in
+    refuses (resize_refusal dev name size) c.resize_refusal.result c.in-Some.refusal (apply (step.Resize name size)) dev c.args.loaded.now c.in_ok-answer.answer
+    c.resize_refusal.ensures c.in-Some.is c.in_ok-answer.ensures
+
+pub returns : goal.returns
+unfolding says
+returns c =
+    let dev = c.args.dev.now in
+    let name = c.args.name.now in
+    let size = c.args.size in
+    takes (resize_refusal dev name size) c.resize_refusal.result (apply (step.Resize name size)) dev c.in_ok-device.device c.args.loaded.now c.in_ok-answer-2.answer
+    c.resize_refusal.ensures c.in_default.is c.in_ok-device.ensures
+    (c.in_ok-answer-2.ensures ∙ ap (λ t. answer_of (answers (Okay t ∷ []) c.in_ok-device.device c.args.loaded.now)) c.as_slice.ensures)
