@@ -6,3 +6,4 @@ pub mod QuestionLemmas
 pub mod FlashLemmas
 pub mod SizeLemmas
 pub mod RunLemmas
+pub mod HostLemmas

@@ -6,3 +6,4 @@ pub mod Questions
 pub mod Flashing
 pub mod Runs
 pub mod SizeText
+pub mod Installs

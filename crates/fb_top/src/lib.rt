@@ -3,7 +3,9 @@
 
 pub mod asking;
 pub mod flashing;
+pub mod host;
 pub mod host_words;
+pub mod lines;
 pub mod plan;
 pub mod product;
 pub mod questions;

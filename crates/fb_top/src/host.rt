@@ -1,0 +1,218 @@
+ghost use Rattle.std.specs.Prelude.{◌≡◌, ◌≢◌, ◌⊎◌, ℕ, ◌≤◌, List, map, Option, Some, None, IsTrue, OnOk, IfOk, IfErr, string_bytes, option_map};
+ghost use Rattle.fb_frame.specs.Causes.{Rose};
+ghost use Rattle.wire_model.specs.Places.{ImageAt};
+ghost use Rattle.fb_top.specs.Asking.{IsCut};
+ghost use Rattle.fb_top.specs.HostWords.{host_words, text_of};
+ghost use Rattle.fb_top.specs.Installs.{Succeeds, Installs, IsElsewhere, IsAbsent, WhyHost, status_of, OfProduct, InstallsOn};
+ghost use Rattle.fb_top.specs.Products.{IsRawImage};
+
+use crate::host_words::{FlashAll, read_host_words};
+use crate::lines::error_line;
+use crate::product::{Product, ProductError, inspect};
+use crate::run::{RunError, drive};
+use dev_model::bad_image::BadImage;
+use fb_frame::sink::Sink;
+use fb_link::port::{AimError, Port, Target};
+use flash_plan::dir::{EnterError, ProductDir};
+use std::alloc::Global;
+
+/// Why fbflash doesn't succeed, with words that are taken.
+#[derive(Debug, Drop)]
+pub enum HostError {
+    Memory,
+    /// The directory isn't there, or failed as it was entered.
+    NoDirectory,
+    /// The directory isn't taken for a product.
+    Product(ProductError),
+    /// The link is cut, or the target stands for nothing.
+    Link,
+    /// No device stands in the image.
+    Device(BadImage),
+    /// The installation stopped.
+    Run(RunError),
+}
+
+/// The status that the program ends with.
+fn status_of(error: &HostError) -> u8
+    ensures { result ≡ status_of error.now }
+{
+    match error {
+        HostError::Memory => 2,
+        HostError::NoDirectory => 3,
+        HostError::Product(ProductError::Memory) => 2,
+        HostError::Product(ProductError::Directory(_)) => 3,
+        HostError::Product(ProductError::Bad(_, _)) => 4,
+        HostError::Link => 6,
+        HostError::Device(_) => 11,
+        HostError::Run(RunError::Memory) => 2,
+        HostError::Run(RunError::Link) => 6,
+        HostError::Run(RunError::Output) => 9,
+        HostError::Run(RunError::Refused(_)) => 7,
+        HostError::Run(RunError::Unknown(_)) => 8,
+        HostError::Run(RunError::Plan(_, _)) => 10,
+    }
+}
+
+/// Enters the directory of the words and inspects the product.
+#[tactic(auto, using(crate::proofs::HostLemmas::opens))]
+fn open_product<D: ProductDir>(
+    alloc: Global,
+    words: &FlashAll<'_>,
+    dir: &mut D,
+) -> Result<Product, HostError>
+    ensures product { IfOk result (λ p. OfProduct (D.files dir.old) p) }
+    ensures raw { IfOk result (λ p. IsRawImage p.image) }
+    ensures why { IfErr result (λ e. WhyHost (Rose (D.faults dir.old) (D.faults dir.new) ⊎ IsElsewhere (Some (text_of words.now)) (D.told_path dir.old)) ⊥ ⊥ e) }
+    ensures later { D.faults dir.old ≤ D.faults dir.new }
+{
+    match dir.enter(alloc, words.dir) {
+        Ok(true) => {}
+        Ok(false) => return Err(HostError::NoDirectory),
+        Err(EnterError::Dir) => return Err(HostError::NoDirectory),
+        Err(EnterError::Memory) => return Err(HostError::Memory),
+    }
+    match inspect(alloc, dir) {
+        Ok(product) => Ok(product),
+        Err(e) => Err(HostError::Product(e)),
+    }
+}
+
+/// Aims at the words' target, and installs the product on the device that it stands for.
+#[tactic(auto, using(crate::proofs::HostLemmas::installs))]
+fn flash_product<P: Port, S: Sink>(
+    alloc: Global,
+    words: &FlashAll<'_>,
+    product: &Product,
+    port: &mut P,
+    out: &mut S,
+) -> Result<(), HostError>
+    requires { IsRawImage product.now.image }
+    ensures success { OnOk result (InstallsOn product.now (P.stands port.old) (ImageAt words.now.image.now) (P.peer port.new)) }
+    ensures why { IfErr result (λ e. WhyHost ⊥ (IsCut (P.faults port.old) (P.faults port.new) (P.ends port.old) (P.ends port.new) ⊎ IsAbsent (Some (text_of words.now)) (P.stands port.old)) (Rose (S.faults out.old) (S.faults out.new)) e) }
+    ensures later { P.faults port.old ≤ P.faults port.new }
+    ensures ends { P.ends port.old ≤ P.ends port.new }
+    ensures said { S.faults out.old ≤ S.faults out.new }
+{
+    match port.aim(alloc, &Target::Image(words.image)) {
+        Ok(()) => {}
+        Err(AimError::Memory) => return Err(HostError::Memory),
+        Err(AimError::BadDevice(kind)) => return Err(HostError::Device(kind)),
+        Err(AimError::NoTarget) => return Err(HostError::Link),
+        Err(AimError::Link) => return Err(HostError::Link),
+    }
+    match drive(alloc, port, product, out) {
+        Ok(()) => Ok(()),
+        Err(e) => Err(HostError::Run(e)),
+    }
+}
+
+/// Installs the words' product on the device that the words' target stands for.
+#[tactic(auto, using(crate::proofs::HostLemmas::flashes))]
+fn flash_all<D: ProductDir, P: Port, S: Sink>(
+    alloc: Global,
+    words: &FlashAll<'_>,
+    dir: &mut D,
+    port: &mut P,
+    out: &mut S,
+) -> Result<(), HostError>
+    ensures success { OnOk result (Succeeds (text_of words.now) (D.files dir.old) (P.stands port.old) (P.peer port.new)) }
+    ensures why { IfErr result (λ e. WhyHost (Rose (D.faults dir.old) (D.faults dir.new) ⊎ IsElsewhere (Some (text_of words.now)) (D.told_path dir.old)) (IsCut (P.faults port.old) (P.faults port.new) (P.ends port.old) (P.ends port.new) ⊎ IsAbsent (Some (text_of words.now)) (P.stands port.old)) (Rose (S.faults out.old) (S.faults out.new)) e) }
+    ensures files { D.faults dir.old ≤ D.faults dir.new }
+    ensures later { P.faults port.old ≤ P.faults port.new }
+    ensures ends { P.ends port.old ≤ P.ends port.new }
+    ensures said { S.faults out.old ≤ S.faults out.new }
+{
+    match open_product(alloc, words, dir) {
+        Ok(product) => match flash_product(alloc, words, &product, port, out) {
+            Ok(()) => Ok(()),
+            Err(e) => Err(e),
+        },
+        Err(e) => Err(e),
+    }
+}
+
+/// Puts the last line, and answers the status: 9 where the line isn't put.
+fn last_line<S: Sink>(out: &mut S, line: &[u8], status: u8) -> u8
+    ensures status { (result ≡ status) ⊎ ((result ≡ 9) × Rose (S.faults out.old) (S.faults out.new)) }
+    ensures later { S.faults out.old ≤ S.faults out.new }
+{
+    match out.put(line) {
+        Ok(()) => status,
+        Err(_) => 9,
+    }
+}
+
+/// Puts the line that names the error, unless the output failed already, and answers its status.
+fn report<S: Sink>(alloc: Global, words: &FlashAll<'_>, error: &HostError, out: &mut S) -> u8
+    ensures status { (result ≡ status_of error.now) ⊎ ((result ≡ 2) ⊎ ((result ≡ 9) × Rose (S.faults out.old) (S.faults out.new))) }
+    ensures later { S.faults out.old ≤ S.faults out.new }
+{
+    let status = status_of(error);
+    if status == 9 {
+        return status;
+    }
+    let Ok(line) = error_line(alloc, words, error) else {
+        let memory = last_line(out, b"error memory\n", 2);
+        return memory;
+    };
+    let answer = last_line(out, line.as_slice(), status);
+    answer
+}
+
+/// Does what the words ask for, hangs up, and puts the last line.
+#[tactic(auto, using(crate::proofs::HostLemmas::ends))]
+fn run_words<D: ProductDir, P: Port, S: Sink>(
+    alloc: Global,
+    words: &FlashAll<'_>,
+    dir: &mut D,
+    port: &mut P,
+    out: &mut S,
+) -> u8
+    ensures success { result ≡ 0 → Succeeds (text_of words.now) (D.files dir.old) (P.stands port.old) (P.peer port.new) }
+    ensures usage { result ≢ 1 }
+    ensures directory { result ≡ 3 → Rose (D.faults dir.old) (D.faults dir.new) ⊎ IsElsewhere (Some (text_of words.now)) (D.told_path dir.old) }
+    ensures link { result ≡ 6 → IsCut (P.faults port.old) (P.faults port.new) (P.ends port.old) (P.ends port.new) ⊎ IsAbsent (Some (text_of words.now)) (P.stands port.old) }
+    ensures output { result ≡ 9 → Rose (S.faults out.old) (S.faults out.new) }
+{
+    let outcome = flash_all(alloc, words, dir, port, out);
+    port.hang_up();
+    match outcome {
+        Ok(()) => {
+            let status = last_line(out, b"done 2\n", 0);
+            status
+        }
+        Err(error) => {
+            let status = report(alloc, words, &error, out);
+            status
+        }
+    }
+}
+
+/// Runs fbflash: `words` are those of its command line without the program's name. Answers the
+/// status that the program ends with, and puts the lines that it prints into `out`.
+#[tactic(auto, using(crate::proofs::HostLemmas::mains))]
+pub fn host_main<D: ProductDir, P: Port, S: Sink>(
+    alloc: Global,
+    words: &[String],
+    dir: &mut D,
+    port: &mut P,
+    out: &mut S,
+) -> u8
+    ensures success { result ≡ 0 → Installs (host_words (map string_bytes words.now)) (D.files dir.old) (P.stands port.old) (P.peer port.new) }
+    ensures usage { result ≡ 1 → host_words (map string_bytes words.now) ≡ None }
+    ensures refused { host_words (map string_bytes words.now) ≡ None → (result ≡ 1) ⊎ ((result ≡ 9) × Rose (S.faults out.old) (S.faults out.new)) }
+    ensures directory { result ≡ 3 → Rose (D.faults dir.old) (D.faults dir.new) ⊎ IsElsewhere (host_words (map string_bytes words.now)) (D.told_path dir.old) }
+    ensures link { result ≡ 6 → IsCut (P.faults port.old) (P.faults port.new) (P.ends port.old) (P.ends port.new) ⊎ IsAbsent (host_words (map string_bytes words.now)) (P.stands port.old) }
+    ensures output { result ≡ 9 → Rose (S.faults out.old) (S.faults out.new) }
+{
+    match read_host_words(words) {
+        None => {
+            let status = last_line(out, b"error usage\n", 1);
+            status
+        }
+        Some(request) => {
+            let status = run_words(alloc, &request, dir, port, out);
+            status
+        }
+    }
+}
