@@ -2,5 +2,15 @@
 //! and splitting them into pieces that a device with a small download buffer takes.
 #![tactic(auto)]
 
+ghost use Rattle.sparse_image.specs.Laws.{WalkAgrees};
+
+pub mod chunk;
+pub mod errors;
 pub mod out;
 pub mod source;
+mod walk;
+
+/// The laws of the definitions.
+pub fn laws()
+    ensures walk_agrees { WalkAgrees }
+{}

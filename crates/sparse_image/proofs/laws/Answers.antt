@@ -1,0 +1,5 @@
+use Rattle.sparse_image.proofs.WalkLemmas.{walk-agrees}
+use Rattle.sparse_image.proofs.laws.Goals as goal
+
+pub returns : goal.returns
+returns c = record { walk_agrees = walk-agrees }
