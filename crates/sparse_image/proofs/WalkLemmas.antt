@@ -13,7 +13,7 @@ use Rattle.sparse_image.specs.declared.errors.SparseKind.TheVariants.{Truncated,
 use Rattle.sparse_image.specs.declared.chunk.Chunk.{Chunk}
 use Rattle.sparse_image.specs.declared.chunk.Content.{Content}
 use Rattle.sparse_image.specs.declared.chunk.Content.TheVariants.{Raw, Fill, DontCare}
-use Rattle.sparse_image.specs.Walks.{head_of, front_chunk, chunk_len, content_len, content_of, sized_chunk, flaw, Kept, checked, sparse_checked, raw_checked, form_flaw, size_flaw, or_flaw, sized_header, header_of, raw_kept, kept_cells, walked, kept, ◌then_on◌, cells_of, content_cells}
+use Rattle.sparse_image.specs.Walks.{head_of, front_of, front_chunk, chunk_len, content_len, content_of, sized_chunk, flaw, Kept, checked, sparse_checked, raw_checked, form_flaw, size_flaw, or_flaw, sized_header, header_of, raw_kept, kept_cells, walked, kept, ◌then_on◌, cells_of, content_cells}
 use Rattle.sparse_image.specs.declared.walk.Header.{Header}
 use Rattle.sparse_image.specs.declared.walk.Head.{Head}
 use Rattle.sparse_image.specs.Laws.{Agrees, WalkAgrees}
@@ -103,12 +103,13 @@ Found-at block file r found more e h = rw e h
 
 walk-on : (more block blocks place : ℕ) (file : List ℕ) →
     ((b p : ℕ) → Found block file (walked more block b p (drop p file)) (chunks_cells more block b (drop p file))) →
-    (r : Result Chunk SparseError) → front_chunk block blocks place (length (drop place file)) (head_of (drop place file)) (take 4 (drop 12 (drop place file))) ≡ r →
+    (r : Result Chunk SparseError) → front_of block blocks place (length (drop place file)) (drop place file) ≡ r →
     Found block file
     (r then_on λ chunk.
     walked more block (blocks - chunk.blocks) (place + chunk_len block chunk) (drop (chunk_len block chunk) (drop place file)) then_on λ chunks.
     Ok (kept chunk chunks))
     (chunks_cells (suc more) block blocks (drop place file))
+unfolding front_of
 walk-on more block blocks place file ih (Err e) h = step-err block blocks place (length (drop place file)) (head_of (drop place file)) _ (λ size. chunks_cells more block (blocks - u32_at 4 (drop place file)) (drop (12 + size) (drop place file))) (λ size. chunk_cells (u16_at 0 (drop place file)) (u32_at 4 (drop place file)) block (take size (drop 12 (drop place file)))) e h
 walk-on more block blocks place file ih (Ok chunk) h =
     let bytes = drop place file in
@@ -124,7 +125,7 @@ walk-on more block blocks place file ih (Ok chunk) h =
 
 pub walk : (more block blocks place : ℕ) (file : List ℕ) → Found block file (walked more block blocks place (drop place file)) (chunks_cells more block blocks (drop place file))
 walk zero block blocks place file = ends block blocks place file (drop place file)
-walk (suc more) block blocks place file = walk-on more block blocks place file (λ b p. walk more block b p file) (front_chunk block blocks place (length (drop place file)) (head_of (drop place file)) (take 4 (drop 12 (drop place file)))) refl
+walk (suc more) block blocks place file = walk-on more block blocks place file (λ b p. walk more block b p file) (front_of block blocks place (length (drop place file)) (drop place file)) refl
 
 -- the header by its fields
 abbrev header_by : (len major minor size chunk_size block blocks chunks : ℕ) → Result Header SparseError

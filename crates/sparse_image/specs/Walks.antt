@@ -85,6 +85,10 @@ front_chunk block blocks place left head first =
     else (if head.kind == 0xCAC4 then Err (flaw CrcChunk place)
     else sized_chunk blocks place left head first (data_size head.kind head.blocks block))
 
+-- the same by the bytes that are left, of which the first 16 tell all
+unfoldable pub front_of : ℕ → ℕ → ℕ → ℕ → List ℕ → Result Chunk SparseError
+front_of block blocks place left bytes = front_chunk block blocks place left (head_of bytes) (take 4 (drop 12 bytes))
+
 -- how many bytes of the file so many bytes of an image take as a chunk's data
 abbrev pub content_len : ℕ → Content → ℕ
 content_len n (Raw place) = n
@@ -99,13 +103,17 @@ chunk_len block chunk = 12 + content_len (chunk.blocks * block) chunk.content
 abbrev pub kept : Chunk → List Chunk → List Chunk
 kept chunk chunks = if chunk.blocks == 0 then chunks else chunk ∷ chunks
 
+-- what is wrong behind the last chunk: blocks of the image are due, or bytes of the file are left
+abbrev pub end_flaw : ℕ → ℕ → ℕ → Option SparseError
+end_flaw blocks place left =
+    if nat_lt 0 blocks then Some (flaw CountMismatch 16)
+    else (if nat_lt 0 left then Some (flaw TrailingBytes place) else None)
+
 -- the kept ones of so many chunks, of so many blocks together, which are all bytes from a place on
 abbrev pub walked : ℕ → ℕ → ℕ → ℕ → List ℕ → Result (List Chunk) SparseError
-walked zero block blocks place bytes =
-    if nat_lt 0 blocks then Err (flaw CountMismatch 16)
-    else (if nat_lt 0 (length bytes) then Err (flaw TrailingBytes place) else Ok [])
+walked zero block blocks place bytes = or_flaw (end_flaw blocks place (length bytes)) (Ok [])
 walked (suc more) block blocks place bytes =
-    front_chunk block blocks place (length bytes) (head_of bytes) (take 4 (drop 12 bytes)) then_on λ chunk.
+    front_of block blocks place (length bytes) bytes then_on λ chunk.
     walked more block (blocks - chunk.blocks) (place + chunk_len block chunk) (drop (chunk_len block chunk) bytes) then_on λ chunks.
     Ok (kept chunk chunks)
 

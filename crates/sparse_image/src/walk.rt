@@ -1,7 +1,7 @@
 ghost use Rattle.std.specs.Prelude.{◌≡◌, ℕ, ◌+◌, ◌-◌, ◌*◌, ◌^◌, ◌<◌, ◌≤◌, length, take, drop, min, IfOk, IfErr};
 ghost use Rattle.std.specs.Result.{result_err};
 ghost use Rattle.dev_model.specs.Images.{u16_at, u32_at, data_size};
-ghost use Rattle.sparse_image.specs.Walks.{form_flaw, size_flaw, head_of, header_of, content_of, sized_chunk, front_chunk, chunk_len};
+ghost use Rattle.sparse_image.specs.Walks.{form_flaw, size_flaw, head_of, header_of, content_of, front_of, chunk_len, end_flaw, walked};
 
 use crate::chunk::{Chunk, Content};
 use crate::errors::{SparseError, SparseKind};
@@ -152,8 +152,23 @@ impl Head {
     }
 }
 
+impl Chunk {
+    /// How many bytes of a sparse file the chunk takes, with its header.
+    pub fn len(&self, block: u32) -> u64
+        ensures { result ≡ chunk_len block self.now }
+    {
+        let data = match self.content {
+            Content::Raw(_) => u64::from(self.blocks) * u64::from(block),
+            Content::Fill(_) => 4,
+            Content::DontCare => 0,
+        };
+        HEAD as u64 + data
+    }
+}
+
 /// The chunk that begins at a place of the file, where `left` bytes are left of the file and `blocks`
 /// of the image. The bytes are those that are left, or at least the first 16 of them.
+#[tactic(auto, unfolding(crate::specs::Walks::front_of))]
 pub fn front_chunk(
     block: u32,
     blocks: u32,
@@ -163,7 +178,9 @@ pub fn front_chunk(
 ) -> Result<Chunk, SparseError>
     requires fits { place + left < 2 ^ 64 }
     requires enough { min 16 left ≤ length bytes.now }
-    ensures { result ≡ front_chunk block blocks place left (head_of bytes.now) (take 4 (drop 12 bytes.now)) }
+    ensures chunk { result ≡ front_of block blocks place left bytes.now }
+    ensures due { IfOk result (λ chunk. chunk.blocks ≤ blocks) }
+    ensures within { IfOk result (λ chunk. chunk_len block chunk ≤ left) }
 {
     if left < HEAD as u64 {
         return Err(SparseError::new(SparseKind::Truncated, place + left));
@@ -188,4 +205,35 @@ pub fn front_chunk(
         blocks: head.blocks,
         content: head.content(place + HEAD as u64, bytes),
     })
+}
+
+/// Tries that nothing is due or left behind the last chunk.
+pub fn check_end(blocks: u32, place: u64, left: u64) -> Result<(), SparseError>
+    ensures { result_err result ≡ end_flaw blocks place left }
+{
+    if blocks > 0 {
+        return Err(SparseError::new(SparseKind::CountMismatch, 16));
+    }
+    if left > 0 {
+        return Err(SparseError::new(SparseKind::TrailingBytes, place));
+    }
+    Ok(())
+}
+
+/// Tries each chunk of a sparse file.
+#[tactic(auto, using(crate::proofs::WalkSteps::walk_steps))]
+pub fn check_chunks(file: &[u8], header: &Header) -> Result<(), SparseError>
+    requires { 28 ≤ length file.now }
+    ensures { result_err result ≡ result_err (walked header.now.chunks header.now.block header.now.blocks 28 (drop 28 file.now)) }
+{
+    let mut blocks = header.blocks;
+    let mut place = HEADER;
+    for _ in 0..header.chunks {
+        let rest = &file[place..];
+        let chunk = front_chunk(header.block, blocks, place as u64, rest.len() as u64, rest)?;
+        blocks -= chunk.blocks;
+        place += chunk.len(header.block) as usize;
+    }
+    check_end(blocks, place as u64, (file.len() - place) as u64)?;
+    Ok(())
 }
