@@ -1,3 +1,4 @@
 pub mod Outside
 pub mod Walks
 pub mod Laws
+pub mod Runs

@@ -1,6 +1,6 @@
 -- The walk through an image file (sparse_format.h, version 1.0): what is kept of it, or the first thing
 -- that is wrong, with its kind and place.
-use Rattle.std.specs.Prelude.{ℕ, zero, suc, ◌+◌, ◌-◌, ◌*◌, ◌/◌, ◌%◌, ◌^◌, Bool, true, false, ◌||◌, not, List, [], ◌∷◌, ◌++◌, length, take, drop, map, replicate, nat_lt, ◌==◌, Option, Some, None, Result, Ok, Err, if◌then◌else◌}
+use Rattle.std.specs.Prelude.{◌≡◌, ◌≤◌, ◌<◌, ℕ, zero, suc, ◌+◌, ◌-◌, ◌*◌, ◌/◌, ◌%◌, ◌^◌, Bool, true, false, ◌||◌, not, List, [], ◌∷◌, ◌++◌, length, take, drop, map, replicate, nat_lt, ◌==◌, Option, Some, None, Result, Ok, Err, if◌then◌else◌}
 use Rattle.std.specs.List.{flat_map}
 use Rattle.dev_model.specs.Images.{round_up, u16_at, u32_at, is_sparse, data_size, copies}
 use Rattle.dev_model.specs.declared.cells.Cell.{Cell}
@@ -59,6 +59,15 @@ abbrev pub header_of : ℕ → List ℕ → Result Header SparseError
 header_of len head =
     if nat_lt len 28 then Err (flaw Truncated len)
     else or_flaw (form_flaw (u16_at 4 head) (u16_at 6 head) (u16_at 8 head) (u16_at 10 head)) (sized_header (fields_of head))
+
+-- a header with which nothing is wrong
+pub record IsFine (header : Header) : Type 0 where
+  pub multiple : header.block % 512 ≡ 0
+  pub low : 512 ≤ header.block
+  pub high : header.block ≤ 65536
+  pub some : 0 < header.blocks
+  pub short : header.blocks * header.block ≤ 2 ^ 44
+  pub few : header.chunks ≤ 1000000
 
 -- the header that stands at the front of a chunk
 abbrev pub head_of : List ℕ → Head
@@ -167,3 +176,15 @@ source_of kept file = if kept.sparse then file else file ++ replicate (round_up 
 -- the cells of all that is kept of a file
 abbrev pub kept_cells : Kept → List ℕ → List Cell
 kept_cells kept file = flat_map (cells_of kept.block (source_of kept file)) kept.chunks
+
+-- the data of a raw chunk lies in a source of so many bytes
+abbrev pub LiesIn : ℕ → ℕ → Content → Type 0
+LiesIn len n (Raw place) = place + n ≤ len
+LiesIn len n (Fill pattern) = Unit {0}
+LiesIn len n DontCare = Unit {0}
+
+-- a fill has four bytes
+abbrev pub HasFour : Content → Type 0
+HasFour (Raw place) = Unit {0}
+HasFour (Fill pattern) = length pattern ≡ 4
+HasFour DontCare = Unit {0}

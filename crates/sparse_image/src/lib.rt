@@ -7,8 +7,10 @@ ghost use Rattle.sparse_image.specs.Laws.{WalkAgrees};
 pub mod chunk;
 pub mod errors;
 pub mod out;
+pub mod runs;
 pub mod source;
 mod walk;
+pub mod writes;
 
 /// The laws of the definitions.
 pub fn laws()

@@ -1,7 +1,7 @@
-ghost use Rattle.std.specs.Prelude.{◌≡◌, ℕ, ◌+◌, ◌-◌, ◌*◌, ◌^◌, ◌<◌, ◌≤◌, length, take, drop, min, IfOk, IfErr};
+ghost use Rattle.std.specs.Prelude.{◌≡◌, ℕ, ◌+◌, ◌-◌, ◌*◌, ◌^◌, ◌<◌, ◌≤◌, length, take, drop, min, IfOk, OnOk};
 ghost use Rattle.std.specs.Result.{result_err};
-ghost use Rattle.dev_model.specs.Images.{u16_at, u32_at, data_size};
-ghost use Rattle.sparse_image.specs.Walks.{form_flaw, size_flaw, head_of, header_of, content_of, front_of, chunk_len, end_flaw, walked};
+ghost use Rattle.dev_model.specs.Images.{round_up, is_sparse, u16_at, u32_at, data_size};
+ghost use Rattle.sparse_image.specs.Walks.{form_flaw, size_flaw, IsFine, head_of, header_of, content_of, front_of, chunk_len, end_flaw, walked};
 
 use crate::chunk::{Chunk, Content};
 use crate::errors::{SparseError, SparseKind};
@@ -12,6 +12,9 @@ pub const HEADER: usize = 28;
 
 /// How many bytes a chunk's header has.
 pub const HEAD: usize = 12;
+
+/// The longest raw file: its padded length stays below 2^44 bytes.
+pub const RAW_LIMIT: u64 = (1 << 44) - 4096;
 
 const RAW: u16 = 0xCAC1;
 
@@ -57,9 +60,12 @@ fn u32_at(bytes: &[u8], place: usize) -> u32
 
 impl Header {
     /// The header of a sparse file of `len` bytes, whose first 28 bytes are given, or all of them.
+    #[tactic(auto, using(crate::proofs::WalkLemmas::headers))]
     pub fn read(head: &[u8], len: u64) -> Result<Header, SparseError>
         requires { min 28 len ≤ length head.now }
-        ensures { result ≡ header_of len head.now }
+        ensures header { result ≡ header_of len head.now }
+        ensures fine { IfOk result (λ header. IsFine header) }
+        ensures long { OnOk result (28 ≤ len) }
     {
         if len < HEADER as u64 {
             return Err(SparseError::new(SparseKind::Truncated, len));
@@ -112,6 +118,21 @@ impl Header {
         }
         Ok(())
     }
+}
+
+/// A file that begins with the magic number of sparse files.
+pub fn is_sparse(file: &[u8]) -> bool
+    ensures { result ≡ is_sparse file.now }
+{
+    file.starts_with(&[0x3a, 0xff, 0x26, 0xed])
+}
+
+/// How many zeros stand behind so many bytes of a raw file.
+pub fn padding(len: u64) -> u64
+    ensures sum { len + result ≡ round_up len }
+    ensures short { result < 4096 }
+{
+    (4096 - len % 4096) % 4096
 }
 
 impl Head {
