@@ -2,3 +2,5 @@ pub mod WalkLemmas
 pub mod NumberLemmas
 pub mod WalkSteps
 pub mod RunLemmas
+pub mod ReadLemmas
+pub mod CheckLemmas

@@ -328,3 +328,5 @@ sparse-none file e h = let a = sparse-agrees file in rw h at a
 
 pub raw-none : (file : List ℕ) (e : SparseError) → raw_checked file ≡ Err e → raw_cells file ≡ None
 raw-none file e h = let a = raw-agrees file in rw h at a
+
+pub ruleset front_lies = (front-lies)

@@ -6,7 +6,9 @@ ghost use Rattle.sparse_image.specs.Laws.{WalkAgrees};
 
 pub mod chunk;
 pub mod errors;
+pub mod index;
 pub mod out;
+mod reads;
 pub mod runs;
 pub mod source;
 mod walk;

@@ -1,7 +1,7 @@
 ghost use Rattle.std.specs.Prelude.{◌≡◌, ℕ, ◌+◌, ◌-◌, ◌*◌, ◌^◌, ◌<◌, ◌≤◌, length, take, drop, min, IfOk, OnOk};
 ghost use Rattle.std.specs.Result.{result_err};
 ghost use Rattle.dev_model.specs.Images.{round_up, is_sparse, u16_at, u32_at, data_size};
-ghost use Rattle.sparse_image.specs.Walks.{form_flaw, size_flaw, IsFine, head_of, header_of, content_of, front_of, chunk_len, end_flaw, walked};
+ghost use Rattle.sparse_image.specs.Walks.{form_flaw, size_flaw, IsFine, head_of, header_of, content_of, front_of, chunk_len, end_flaw, walked, LiesIn};
 
 use crate::chunk::{Chunk, Content};
 use crate::errors::{SparseError, SparseKind};
@@ -189,7 +189,7 @@ impl Chunk {
 
 /// The chunk that begins at a place of the file, where `left` bytes are left of the file and `blocks`
 /// of the image. The bytes are those that are left, or at least the first 16 of them.
-#[tactic(auto, unfolding(crate::specs::Walks::front_of))]
+#[tactic(auto, using(crate::proofs::WalkLemmas::front_lies), unfolding(crate::specs::Walks::front_of))]
 pub fn front_chunk(
     block: u32,
     blocks: u32,
@@ -202,6 +202,7 @@ pub fn front_chunk(
     ensures chunk { result ≡ front_of block blocks place left bytes.now }
     ensures due { IfOk result (λ chunk. chunk.blocks ≤ blocks) }
     ensures within { IfOk result (λ chunk. chunk_len block chunk ≤ left) }
+    ensures lies { IfOk result (λ chunk. LiesIn (place + left) (chunk.blocks * block) chunk.content) }
 {
     if left < HEAD as u64 {
         return Err(SparseError::new(SparseKind::Truncated, place + left));
