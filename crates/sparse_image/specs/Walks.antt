@@ -1,7 +1,7 @@
 -- The walk through an image file (sparse_format.h, version 1.0): what is kept of it, or the first thing
 -- that is wrong, with its kind and place.
 use Rattle.std.specs.Prelude.{◌≡◌, ◌≤◌, ◌<◌, ℕ, zero, suc, ◌+◌, ◌-◌, ◌*◌, ◌/◌, ◌%◌, ◌^◌, Bool, true, false, ◌||◌, not, List, [], ◌∷◌, ◌++◌, length, take, drop, map, replicate, nat_lt, ◌==◌, Option, Some, None, Result, Ok, Err, if◌then◌else◌}
-use Rattle.std.specs.List.{flat_map}
+use Rattle.std.specs.List.{flat_map, sum_by, All}
 use Rattle.dev_model.specs.Images.{round_up, u16_at, u32_at, is_sparse, data_size, copies}
 use Rattle.dev_model.specs.declared.cells.Cell.{Cell}
 use Rattle.dev_model.specs.declared.cells.Cell.TheVariants.{Byte, Skip}
@@ -188,3 +188,28 @@ abbrev pub HasFour : Content → Type 0
 HasFour (Raw place) = Unit {0}
 HasFour (Fill pattern) = length pattern ≡ 4
 HasFour DontCare = Unit {0}
+
+-- kept chunks of so many blocks together, each of at least one block, with their data in a source of so many bytes
+pub record AreWell (block len blocks : ℕ) (chunks : List Chunk) : Type 0 where
+  pub total : sum_by (λ chunk. chunk.blocks) chunks ≡ blocks
+  pub some : All (λ chunk. 0 < chunk.blocks) chunks
+  pub lies : All (λ chunk. LiesIn len (chunk.blocks * block) chunk.content) chunks
+
+-- how many bytes the data of chunks may lie in: those of the file, with a raw file's padding
+abbrev pub source_room : Kept → ℕ
+source_room kept = if kept.sparse then kept.source_len else kept.blocks * kept.block
+
+-- what can be kept of some file
+pub record IsKept (kept : Kept) : Type 0 where
+  pub multiple : kept.block % 512 ≡ 0
+  pub low : 512 ≤ kept.block
+  pub high : kept.block ≤ 65536
+  pub some : 0 < kept.blocks
+  pub short : kept.blocks * kept.block ≤ 2 ^ 44
+  pub few : length kept.chunks ≤ 1000000
+  pub well : AreWell kept.block (source_room kept) kept.blocks kept.chunks
+
+-- chunks before those of a walk
+abbrev pub prepend : List Chunk → Result (List Chunk) SparseError → Result (List Chunk) SparseError
+prepend before (Ok chunks) = Ok (before ++ chunks)
+prepend before (Err e) = Err e

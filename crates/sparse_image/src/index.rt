@@ -1,14 +1,15 @@
-ghost use Rattle.std.specs.Prelude.{◌≡◌, ℕ, ◌+◌, ◌-◌, ◌*◌, ◌^◌, ◌<◌, ◌≤◌, ◌++◌, [], length, take, drop, min, IfOk, OnOk, IfSome, None, Ok, Err};
+ghost use Rattle.std.specs.Prelude.{◌≡◌, ℕ, ◌+◌, ◌-◌, ◌*◌, ◌^◌, ◌<◌, ◌≤◌, ◌++◌, [], length, take, drop, min, IfOk, OnOk, OnErr, IfSome, vec_len, None, Ok, Err};
 ghost use Rattle.std.specs.Result.{IsErrOf};
-ghost use Rattle.fb_frame.specs.Causes.{Rose};
-ghost use Rattle.dev_model.specs.Images.{image};
-ghost use Rattle.sparse_image.specs.Walks.{checked, front_of, header_of, chunk_len, kept, LiesIn, IsFine};
+ghost use Rattle.fb_frame.specs.Causes.{Rose, HasCause};
+ghost use Rattle.dev_model.specs.Images.{image, is_sparse};
+ghost use Rattle.sparse_image.specs.Walks.{checked, front_of, header_of, chunk_len, kept, walked, LiesIn, IsFine, AreWell};
 
 use crate::chunk::Chunk;
 use crate::errors::SparseError;
 use crate::reads::read_exact;
-use crate::source::Bytes;
-use crate::walk::{HEADER, Header, front_chunk};
+use crate::source::{Bytes, BytesFault};
+use crate::walk::{HEADER, Header, check_end, front_chunk, is_sparse};
+use std::alloc::Global;
 
 /// Why a source has no index.
 #[derive(Debug, Drop)]
@@ -23,7 +24,13 @@ pub enum CheckError {
 
 /// The chunk at a place of a source of `len` bytes.
 #[tactic(auto, using(crate::proofs::CheckLemmas::fronts))]
-fn next_chunk<B: Bytes>(source: &mut B, len: u64, block: u32, blocks: u32, place: u64) -> Result<Chunk, CheckError>
+fn next_chunk<B: Bytes>(
+    source: &mut B,
+    len: u64,
+    block: u32,
+    blocks: u32,
+    place: u64,
+) -> Result<Chunk, CheckError>
     requires len { len ≡ B.size source.old }
     requires told { IfSome (B.content source.old) (λ file. length file ≡ len) }
     requires within { place ≤ len }
@@ -46,6 +53,92 @@ fn next_chunk<B: Bytes>(source: &mut B, len: u64, block: u32, blocks: u32, place
     };
     match front_chunk(block, blocks, place, left, front) {
         Ok(chunk) => Ok(chunk),
+        Err(flaw) => Err(CheckError::Bad(flaw)),
+    }
+}
+
+/// Whether a source of `len` bytes begins with the magic number of sparse files.
+#[tactic(auto, using(crate::proofs::CheckLemmas::magics))]
+fn begins_sparse<B: Bytes>(source: &mut B, len: u64) -> Result<bool, BytesFault>
+    requires len { len ≡ B.size source.old }
+    requires told { IfSome (B.content source.old) (λ file. length file ≡ len) }
+    ensures sparse { IfOk result (λ sparse. IfSome (B.content source.old) (λ file. is_sparse file ≡ sparse)) }
+    ensures content { B.content source.new ≡ B.content source.old }
+    ensures size { B.size source.new ≡ B.size source.old }
+    ensures cause { HasCause (B.faults source.old) (B.faults source.new) result }
+{
+    let mut room = [0; 4];
+    let front = &mut room[..len.min(4) as usize];
+    read_exact(source, 0, front)?;
+    Ok(is_sparse(front))
+}
+
+/// The header of a sparse source of `len` bytes.
+#[tactic(auto, using(crate::proofs::CheckLemmas::headers))]
+fn read_header<B: Bytes>(source: &mut B, len: u64) -> Result<Header, CheckError>
+    requires len { len ≡ B.size source.old }
+    requires told { IfSome (B.content source.old) (λ file. length file ≡ len) }
+    ensures header { IfOk result (λ header. IfSome (B.content source.old) (λ file. header_of (length file) file ≡ Ok header)) }
+    ensures fine { IfOk result (λ header. IsFine header) }
+    ensures long { OnOk result (28 ≤ len) }
+    ensures flaw { (flaw : _) → IsErrOf result (CheckError.Bad flaw) → IfSome (B.content source.old) (λ file. header_of (length file) file ≡ Err flaw) }
+    ensures read { IsErrOf result CheckError.Read → Rose (B.faults source.old) (B.faults source.new) }
+    ensures content { B.content source.new ≡ B.content source.old }
+    ensures size { B.size source.new ≡ B.size source.old }
+    ensures later { B.faults source.old ≤ B.faults source.new }
+{
+    let mut room = [0; HEADER];
+    let head = &mut room[..len.min(HEADER as u64) as usize];
+    let Ok(()) = read_exact(source, 0, head) else {
+        return Err(CheckError::Read);
+    };
+    match Header::read(head, len) {
+        Ok(header) => Ok(header),
+        Err(flaw) => Err(CheckError::Bad(flaw)),
+    }
+}
+
+/// Keeps a chunk of at least one block.
+fn keep(chunks: &mut Vec<Chunk>, chunk: Chunk) -> Result<(), CheckError>
+    ensures kept { OnOk result (chunks.new.items ≡ chunks.old.items ++ kept chunk []) }
+    ensures memory { OnErr result (IsErrOf result CheckError.Memory) }
+{
+    if chunk.blocks > 0 {
+        chunks.push(chunk).map_err(|_| CheckError::Memory)?;
+    }
+    Ok(())
+}
+
+/// The kept chunks of a sparse source.
+fn read_chunks<B: Bytes>(
+    alloc: Global,
+    source: &mut B,
+    len: u64,
+    header: &Header,
+) -> Result<Vec<Chunk>, CheckError>
+    requires len { len ≡ B.size source.old }
+    requires told { IfSome (B.content source.old) (λ file. length file ≡ len) }
+    requires long { 28 ≤ len }
+    ensures chunks { IfOk result (λ chunks. IfSome (B.content source.old) (λ file. walked header.now.chunks header.now.block header.now.blocks 28 (drop 28 file) ≡ Ok chunks.items)) }
+    ensures well { IfOk result (λ chunks. AreWell header.now.block len header.now.blocks chunks.items) }
+    ensures few { IfOk result (λ chunks. length chunks.items ≤ header.now.chunks) }
+    ensures flaw { (flaw : _) → IsErrOf result (CheckError.Bad flaw) → IfSome (B.content source.old) (λ file. walked header.now.chunks header.now.block header.now.blocks 28 (drop 28 file) ≡ Err flaw) }
+    ensures read { IsErrOf result CheckError.Read → Rose (B.faults source.old) (B.faults source.new) }
+    ensures content { B.content source.new ≡ B.content source.old }
+    ensures size { B.size source.new ≡ B.size source.old }
+    ensures later { B.faults source.old ≤ B.faults source.new }
+{
+    let mut chunks = Vec::new(alloc);
+    let mut blocks = header.blocks;
+    let mut place = HEADER as u64;
+    for _ in 0..header.chunks {
+        let chunk = next_chunk(source, len, header.block, blocks, place)?;
+        blocks -= chunk.blocks;
+        place += chunk.len(header.block);
+        keep(&mut chunks, chunk)?;
+    }
+    match check_end(blocks, place, len - place) {
+        Ok(()) => Ok(chunks),
         Err(flaw) => Err(CheckError::Bad(flaw)),
     }
 }
