@@ -5,12 +5,14 @@ use Rattle.std.proofs.lemmas.List.{take-take, drop-take, take_min, take_all, len
 use Rattle.std.proofs.lemmas.Bool.Decides.{eqb_tells, nat_tests}
 use Rattle.std.proofs.lemmas.List.Sums.{sum_by_push}
 use Rattle.std.proofs.lemmas.List.Elements.{All-nil, All-push}
-use Rattle.dev_model.specs.Images.{is_sparse}
+use Rattle.dev_model.specs.Images.{image, is_sparse}
+use Rattle.sparse_image.specs.declared.errors.SparseKind.TheVariants.{Empty}
+use Rattle.sparse_image.proofs.WalkLemmas.{walk-agrees, image-none}
 use Rattle.sparse_image.specs.declared.walk.Header.{Header}
 use Rattle.sparse_image.specs.declared.errors.SparseError.{SparseError}
 use Rattle.sparse_image.specs.declared.chunk.Chunk.{Chunk}
 use Rattle.sparse_image.specs.Outside.{IsRead}
-use Rattle.sparse_image.specs.Walks.{front_of, header_of, walked, kept, prepend, chunk_len, end_flaw, LiesIn, AreWell, ◌then_on◌}
+use Rattle.sparse_image.specs.Walks.{Kept, checked, sparse_checked, raw_checked, kept_cells, flaw, front_of, header_of, walked, kept, prepend, chunk_len, end_flaw, LiesIn, AreWell, ◌then_on◌}
 
 -- a part of the first bytes
 part-same : (n k m : ℕ) (xs : List ℕ) → k + n ≤ m → take n (drop k (take m xs)) ≡ take n (drop k xs)
@@ -90,9 +92,9 @@ told-next (Some file) whole n m block blocks place before chunk k f w =
     let rest = drop place file in
     let v = rw k at w in
     rw (← drop-drop (chunk_len block chunk) place file)
-      (prepend-next before chunk (walked m block (blocks - chunk.blocks) (place + chunk_len block chunk) (drop (chunk_len block chunk) rest))
-      ∙ ap (λ (r : Result Chunk SparseError). prepend before (r then_on λ chunk. walked m block (blocks - chunk.blocks) (place + chunk_len block chunk) (drop (chunk_len block chunk) rest) then_on λ chunks. Ok (kept chunk chunks))) (sym f)
-      ∙ v)
+    (prepend-next before chunk (walked m block (blocks - chunk.blocks) (place + chunk_len block chunk) (drop (chunk_len block chunk) rest))
+    ∙ ap (λ (r : Result Chunk SparseError). prepend before (r then_on λ chunk. walked m block (blocks - chunk.blocks) (place + chunk_len block chunk) (drop (chunk_len block chunk) rest) then_on λ chunks. Ok (kept chunk chunks))) (sym f)
+    ∙ v)
 
 pub told-stops : (o : Option (List ℕ)) (whole : List ℕ → Result (List Chunk) SparseError) (n m block blocks place : ℕ) (before : List Chunk) (e : SparseError) → n ≡ suc m →
     IfSome o (λ file. front_of block blocks place (length (drop place file)) (drop place file) ≡ Err e) →
@@ -153,3 +155,49 @@ well-none block len total = record { total = omega arith; some = All-nil _; lies
 
 pub kept-short : (chunk : Chunk) → length (kept chunk []) ≤ 1
 kept-short chunk = ⊎_elim (λ h. rw h.0 (omega arith)) (λ h. rw h.0 (omega arith)) (eqb_tells chunk.blocks 0)
+
+-- the index of a sparse source
+pub sparse-kept : (o : Option (List ℕ)) (len : ℕ) (header : Header) (chunks : List Chunk) → IfSome o (λ file. length file ≡ len) → IfSome o (λ file. header_of (length file) file ≡ Ok header) →
+    IfSome o (λ file. walked header.chunks header.block header.blocks 28 (drop 28 file) ≡ Ok chunks) →
+    IfSome o (λ file. sparse_checked file ≡ Ok (record { sparse = true; source_len = len; block = header.block; blocks = header.blocks; chunks = chunks }))
+sparse-kept None len header chunks l h w = tt
+sparse-kept (Some file) len header chunks l h w = rw (h, w, l) refl
+
+pub sparse-bad_header : (o : Option (List ℕ)) (flaw : SparseError) → IfSome o (λ file. header_of (length file) file ≡ Err flaw) → IfSome o (λ file. sparse_checked file ≡ Err flaw)
+sparse-bad_header None flaw h = tt
+sparse-bad_header (Some file) flaw h = rw h refl
+
+pub sparse-bad_chunks : (o : Option (List ℕ)) (header : Header) (flaw : SparseError) → IfSome o (λ file. header_of (length file) file ≡ Ok header) →
+    IfSome o (λ file. walked header.chunks header.block header.blocks 28 (drop 28 file) ≡ Err flaw) → IfSome o (λ file. sparse_checked file ≡ Err flaw)
+sparse-bad_chunks None header flaw h w = tt
+sparse-bad_chunks (Some file) header flaw h w = rw (h, w) refl
+
+pub ruleset indexes = (sparse-kept, sparse-bad_header, sparse-bad_chunks)
+
+-- the whole check
+pub checked-empty : (o : Option (List ℕ)) (len : ℕ) → IfSome o (λ file. length file ≡ len) → len ≡ 0 → IfSome o (λ file. checked file ≡ Err (flaw Empty 0))
+checked-empty None len l e = tt
+checked-empty (Some file) len l e = rw (l, e) refl
+
+pub checked-sparse : (o : Option (List ℕ)) (len : ℕ) (r : Result Kept SparseError) → IfSome o (λ file. length file ≡ len) → 0 < len → IfSome o (λ file. is_sparse file ≡ true) → IfSome o (λ file. sparse_checked file ≡ r) → IfSome o (λ file. checked file ≡ r)
+checked-sparse None len r l e s h = tt
+checked-sparse (Some file) len r l e s h =
+    let z : (length file == 0) ≡ false = grind (arith, nat_tests) in
+    rw (z, s) h
+
+pub checked-raw : (o : Option (List ℕ)) (len : ℕ) (r : Result Kept SparseError) → IfSome o (λ file. length file ≡ len) → 0 < len → IfSome o (λ file. is_sparse file ≡ false) →
+    ((file : List ℕ) → length file ≡ len → raw_checked file ≡ r) → IfSome o (λ file. checked file ≡ r)
+checked-raw None len r l e s h = tt
+checked-raw (Some file) len r l e s h =
+    let z : (length file == 0) ≡ false = grind (arith, nat_tests) in
+    rw (z, s) (h file l)
+
+pub image-kept : (o : Option (List ℕ)) (kept : Kept) → IfSome o (λ file. checked file ≡ Ok kept) → IfSome o (λ file. image file ≡ Some (kept_cells kept file))
+image-kept None kept h = tt
+image-kept (Some file) kept h = let a = walk-agrees file in rw h at a
+
+pub image-bad : (o : Option (List ℕ)) (flaw : SparseError) → IfSome o (λ file. checked file ≡ Err flaw) → IfSome o (λ file. image file ≡ None)
+image-bad None flaw h = tt
+image-bad (Some file) flaw h = image-none file flaw h
+
+pub ruleset checks = (checked-empty, checked-sparse, checked-raw, image-kept, image-bad)

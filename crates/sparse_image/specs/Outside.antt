@@ -1,10 +1,9 @@
 -- What calls do to sources and outs, which tell what they hold or don't.
-use Rattle.std.specs.Prelude.{◌≡◌, ◌≢◌, ℕ, ◌+◌, ◌<◌, ◌≤◌, List, ◌++◌, length, take, drop, Option, Some, None}
+use Rattle.std.specs.Prelude.{◌≡◌, ◌≢◌, ℕ, ◌+◌, ◌<◌, ◌≤◌, List, ◌++◌, length, take, drop, Option, Some, None, IfSome}
 
 -- a told list has as many bytes as the length says
 abbrev pub HasLength : Option (List ℕ) → ℕ → Type 0
-HasLength (Some bytes) n = length bytes ≡ n
-HasLength None n = Unit {0}
+HasLength told n = IfSome told (λ bytes. length bytes ≡ n)
 
 -- the first n bytes of a buffer are those of a told list from a place on
 abbrev pub IsRead : Option (List ℕ) → ℕ → List ℕ → ℕ → Type 0

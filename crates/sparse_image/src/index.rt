@@ -1,15 +1,16 @@
-ghost use Rattle.std.specs.Prelude.{◌≡◌, ℕ, ◌+◌, ◌-◌, ◌*◌, ◌^◌, ◌<◌, ◌≤◌, ◌++◌, [], length, take, drop, min, IfOk, OnOk, OnErr, IfSome, vec_len, None, Ok, Err};
+ghost use Rattle.std.specs.Prelude.{◌≡◌, ℕ, ◌+◌, ◌-◌, ◌*◌, ◌^◌, ◌<◌, ◌≤◌, ◌++◌, [], length, take, drop, min, IfOk, OnOk, OnErr, List, IfSome, None, Some, Ok, Err};
 ghost use Rattle.std.specs.Result.{IsErrOf};
 ghost use Rattle.fb_frame.specs.Causes.{Rose, HasCause};
 ghost use Rattle.dev_model.specs.Images.{image, is_sparse};
-ghost use Rattle.sparse_image.specs.Walks.{checked, front_of, header_of, chunk_len, kept, walked, LiesIn, IsFine, AreWell};
+ghost use Rattle.sparse_image.specs.Walks.{checked, sparse_checked, raw_checked, kept_cells, front_of, header_of, chunk_len, kept, walked, LiesIn, IsFine, AreWell};
 
-use crate::chunk::Chunk;
-use crate::errors::SparseError;
+use crate::chunk::{Chunk, Content};
+use crate::errors::{SparseError, SparseKind};
 use crate::reads::read_exact;
 use crate::source::{Bytes, BytesFault};
-use crate::walk::{HEADER, Header, check_end, front_chunk, is_sparse};
+use crate::walk::{HEADER, Header, RAW_LIMIT, check_end, front_chunk, is_sparse, padding};
 use std::alloc::Global;
+use std::marker::Model;
 
 /// Why a source has no index.
 #[derive(Debug, Drop)]
@@ -141,4 +142,127 @@ fn read_chunks<B: Bytes>(
         Ok(()) => Ok(chunks),
         Err(flaw) => Err(CheckError::Bad(flaw)),
     }
+}
+
+/// What is kept of an image file whose every part was looked at.
+#[derive(Debug, Drop)]
+pub struct Index {
+    sparse: bool,
+    source_len: u64,
+    block: u32,
+    blocks: u32,
+    chunks: Vec<Chunk>,
+}
+
+impl Model for Index {
+    ghost use Rattle.sparse_image.specs.Walks.{Kept, IsKept};
+
+    ghost Value = { Kept };
+
+    ghost view = { λ index. record { sparse = index.sparse; source_len = index.source_len; block = index.block; blocks = index.blocks; chunks = index.chunks.items } };
+
+    ghost invariant = { λ index. IsKept (record { sparse = index.sparse; source_len = index.source_len; block = index.block; blocks = index.blocks; chunks = index.chunks.items }) };
+}
+
+impl Index {
+    /// How many bytes the whole image has.
+    pub fn len(&self) -> u64
+        ensures { result ≡ self.now.blocks * self.now.block }
+    {
+        u64::from(self.blocks) * u64::from(self.block)
+    }
+
+    /// How many chunks of at least one block there are; 1 for a raw file.
+    pub fn chunks(&self) -> u32
+        ensures { result ≡ length self.now.chunks }
+    {
+        self.chunks.len() as u32
+    }
+
+    /// How many bytes the source has that was checked.
+    pub fn source_len(&self) -> u64
+        ensures { result ≡ self.now.source_len }
+    {
+        self.source_len
+    }
+}
+
+/// The index of a sparse source.
+#[tactic(auto, using(crate::proofs::CheckLemmas::indexes))]
+fn check_sparse<B: Bytes>(alloc: Global, source: &mut B, len: u64) -> Result<Index, CheckError>
+    requires len { len ≡ B.size source.old }
+    requires told { IfSome (B.content source.old) (λ file. length file ≡ len) }
+    ensures index { IfOk result (λ index. IfSome (B.content source.old) (λ file. sparse_checked file ≡ Ok index)) }
+    ensures source_len { IfOk result (λ index. index.source_len ≡ len) }
+    ensures flaw { (flaw : _) → IsErrOf result (CheckError.Bad flaw) → IfSome (B.content source.old) (λ file. sparse_checked file ≡ Err flaw) }
+    ensures read { IsErrOf result CheckError.Read → Rose (B.faults source.old) (B.faults source.new) }
+    ensures content { B.content source.new ≡ B.content source.old }
+    ensures size { B.size source.new ≡ B.size source.old }
+    ensures later { B.faults source.old ≤ B.faults source.new }
+{
+    let header = read_header(source, len)?;
+    let chunks = read_chunks(alloc, source, len, &header)?;
+    Ok(Index {
+        sparse: true,
+        source_len: len,
+        block: header.block,
+        blocks: header.blocks,
+        chunks,
+    })
+}
+
+/// The index of a raw source, of which its length tells all.
+#[tactic(auto, using(crate::proofs::CheckLemmas::indexes))]
+fn check_raw(alloc: Global, len: u64) -> Result<Index, CheckError>
+    requires { 0 < len }
+    ensures index { IfOk result (λ index. (file : List ℕ) → length file ≡ len → raw_checked file ≡ Ok index) }
+    ensures source_len { IfOk result (λ index. index.source_len ≡ len) }
+    ensures flaw { (flaw : _) → IsErrOf result (CheckError.Bad flaw) → (file : List ℕ) → length file ≡ len → raw_checked file ≡ Err flaw }
+    ensures read { ¬ IsErrOf result CheckError.Read }
+{
+    if len > RAW_LIMIT {
+        return Err(CheckError::Bad(SparseError::new(SparseKind::TooLong, 0)));
+    }
+    let blocks = ((len + padding(len)) / 4096) as u32;
+    let chunk = Chunk {
+        blocks,
+        content: Content::Raw(0),
+    };
+    let chunks = Vec::from_slice(alloc, &[chunk]).map_err(|_| CheckError::Memory)?;
+    Ok(Index {
+        sparse: false,
+        source_len: len,
+        block: 4096,
+        blocks,
+        chunks,
+    })
+}
+
+/// Looks at every chunk of an image file, through small reads, and keeps where they stand; or
+/// answers the first thing that is wrong with the file.
+#[tactic(auto, using(crate::proofs::CheckLemmas::checks))]
+pub fn check<B: Bytes>(alloc: Global, source: &mut B) -> Result<Index, CheckError>
+    ensures index { IfOk result (λ index. IfSome (B.content source.old) (λ file. checked file ≡ Ok index)) }
+    ensures image { IfOk result (λ index. IfSome (B.content source.old) (λ file. image file ≡ Some (kept_cells index file))) }
+    ensures source_len { IfOk result (λ index. index.source_len ≡ B.size source.old) }
+    ensures flaw { (flaw : _) → IsErrOf result (CheckError.Bad flaw) → IfSome (B.content source.old) (λ file. checked file ≡ Err flaw) }
+    ensures none { (flaw : _) → IsErrOf result (CheckError.Bad flaw) → IfSome (B.content source.old) (λ file. image file ≡ None) }
+    ensures read { IsErrOf result CheckError.Read → Rose (B.faults source.old) (B.faults source.new) }
+    ensures content { B.content source.new ≡ B.content source.old }
+    ensures size { B.size source.new ≡ B.size source.old }
+    ensures later { B.faults source.old ≤ B.faults source.new }
+{
+    let len = source.len();
+    if len == 0 {
+        return Err(CheckError::Bad(SparseError::new(SparseKind::Empty, 0)));
+    }
+    let Ok(sparse) = begins_sparse(source, len) else {
+        return Err(CheckError::Read);
+    };
+    if sparse {
+        let index = check_sparse(alloc, source, len)?;
+        return Ok(index);
+    }
+    let index = check_raw(alloc, len)?;
+    Ok(index)
 }
