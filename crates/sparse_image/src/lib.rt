@@ -18,3 +18,6 @@ pub mod writes;
 pub fn laws()
     ensures walk_agrees { WalkAgrees }
 {}
+
+#[cfg(test)]
+mod tests;
