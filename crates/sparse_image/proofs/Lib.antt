@@ -4,3 +4,4 @@ pub mod WalkSteps
 pub mod RunLemmas
 pub mod ReadLemmas
 pub mod CheckLemmas
+pub mod SpellLemmas

@@ -150,7 +150,7 @@ header_by len major minor size chunk_size block blocks chunks =
     if nat_lt len 28 then Err (flaw Truncated len)
     else or_flaw (form_flaw major minor size chunk_size) (sized_header (record { block = block; blocks = blocks; chunks = chunks }))
 
-abbrev good_by : (len major minor size chunk_size block blocks chunks : ℕ) → Bool
+abbrev pub good_by : (len major minor size chunk_size block blocks chunks : ℕ) → Bool
 good_by len major minor size chunk_size block blocks chunks =
     nat_le 28 len
     && major == 1 && minor == 0 && size == 28 && chunk_size == 12

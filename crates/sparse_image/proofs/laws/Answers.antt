@@ -1,3 +1,4 @@
+use Rattle.sparse_image.proofs.SpellLemmas.{spelled-image}
 use Rattle.sparse_image.proofs.WalkLemmas.{walk-agrees}
 use Rattle.sparse_image.proofs.laws.Goals as goal
 
