@@ -5,3 +5,4 @@ pub mod RunLemmas
 pub mod ReadLemmas
 pub mod CheckLemmas
 pub mod SpellLemmas
+pub mod CutLemmas
