@@ -6,3 +6,4 @@ pub mod ReadLemmas
 pub mod CheckLemmas
 pub mod SpellLemmas
 pub mod CutLemmas
+pub mod KeptLemmas

@@ -330,3 +330,7 @@ pub raw-none : (file : List ℕ) (e : SparseError) → raw_checked file ≡ Err 
 raw-none file e h = let a = raw-agrees file in rw h at a
 
 pub ruleset front_lies = (front-lies)
+
+pub front-within : (block blocks place left : ℕ) (bytes : List ℕ) (chunk : Chunk) → front_of block blocks place left bytes ≡ Ok chunk → chunk_len block chunk ≤ left
+unfolding front_of
+front-within block blocks place left bytes chunk h = front_chunk-fits block blocks place left (head_of bytes) (take 4 (drop 12 bytes)) chunk h

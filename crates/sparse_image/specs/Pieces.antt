@@ -3,6 +3,7 @@
 use Rattle.std.specs.Prelude.{◌≡◌, ◌≤◌, ◌<◌, ℕ, zero, suc, ◌+◌, ◌-◌, ◌*◌, ◌/◌, ◌^◌, Bool, true, false, List, [], ◌∷◌, ◌++◌, length, take, drop, map, replicate, nat_le, ◌==◌, Option, Some, None, if◌then◌else◌}
 use Rattle.std.specs.List.{flat_map, sum_by}
 use Rattle.std.specs.Int.{w16, w32, to_le_bytes}
+use Rattle.dev_model.specs.Images.{over}
 use Rattle.dev_model.specs.declared.cells.Cell.{Cell}
 use Rattle.dev_model.specs.declared.cells.Cell.TheVariants.{Skip}
 use Rattle.sparse_image.specs.declared.chunk.Content.{Content}
@@ -78,3 +79,33 @@ piece_cells kept file first last =
     replicate (first * kept.block) Skip
     ++ (take ((last - first) * kept.block) (drop (first * kept.block) (kept_cells kept file))
     ++ replicate ((kept.blocks - last) * kept.block) Skip)
+
+-- how many bytes a file has that is sent whole: a raw one with its padding, a sparse one as it is
+abbrev pub whole_len : Kept → ℕ
+whole_len kept = if kept.sparse then kept.source_len else kept.blocks * kept.block
+
+-- a piece of these blocks keeps both bounds, on its bytes and on its chunks
+pub record Fits (kept : Kept) (max first last : ℕ) : Type 0 where
+  pub more : first < last
+  pub within : last ≤ kept.blocks
+  pub size : sparse_len kept.block (piece_chunks kept first last) ≤ max
+  pub few : length (piece_chunks kept first last) ≤ 1000000
+
+-- the greatest place up to which both bounds are kept
+pub record EndsAt (kept : Kept) (max first last : ℕ) : Type 0 where
+  pub fits : Fits kept max first last
+  pub greatest : (place : ℕ) → Fits kept max first place → place ≤ last
+
+-- a piece that isn't the whole file, as a file
+abbrev pub piece_file : Kept → List ℕ → ℕ → ℕ → List ℕ
+piece_file kept file first last = sparse_file kept.block kept.blocks (source_of kept file) (piece_chunks kept first last)
+
+-- what is there after pieces are put, the first from a block on up to the first place, and so on
+abbrev pub put_pieces : Kept → List ℕ → ℕ → List ℕ → List ℕ → List ℕ
+put_pieces kept file first [] old = old
+put_pieces kept file first (last ∷ places) old = put_pieces kept file last places (over (piece_cells kept file first last) old)
+
+-- places that rise from a block to the last one
+abbrev pub Rise : ℕ → List ℕ → ℕ → Type 0
+Rise first [] total = first ≡ total
+Rise first (last ∷ places) total = (first ≤ last) × (last ≤ total) × Rise last places total
