@@ -88,8 +88,8 @@ rest-chunk block n source chunk more f w h =
     let s = spent chunk.blocks n (chunk.blocks - n) block (omega arith) in
     let e : chunk.blocks * block - n * block ≡ (chunk.blocks - n) * block = omega arith in
     sym (drop-append-le (n * block) (cells_of block source chunk) more p
-      ∙ ap (λ (xs : List Cell). xs ++ more) (rest-content (n * block) (chunk.blocks * block) source chunk.content w.four (fours n block f) (fours chunk.blocks block f) (mul-le-mul_right block h)
-        ∙ ap (λ (x : ℕ). content_cells x source (content_behind (n * block) chunk.content)) e))
+    ∙ ap (λ (xs : List Cell). xs ++ more) (rest-content (n * block) (chunk.blocks * block) source chunk.content w.four (fours n block f) (fours chunk.blocks block f) (mul-le-mul_right block h)
+    ∙ ap (λ (x : ℕ). content_cells x source (content_behind (n * block) chunk.content)) e))
 
 pub first-cells : (block : ℕ) (source : List ℕ) → block % 4 ≡ 0 → (chunks : List Chunk) (n : ℕ) → All (IsChunk block (length source)) chunks →
     flat_map (cells_of block source) (first_blocks n chunks) ≡ take (n * block) (flat_map (cells_of block source) chunks)
@@ -99,11 +99,11 @@ first-cells block source f (chunk ∷ chunks) n w =
     let others = All-tail (IsChunk block (length source)) chunk chunks w in
     let rest = flat_map (cells_of block source) chunks in
     ⊎_elim
-      (λ k. rw k.0 (ap (λ (xs : List Cell). cells_of block source chunk ++ xs) (first-cells block source f chunks (n - chunk.blocks) others)
-        ∙ sym (take-append-add (cells_of block source chunk) rest ((n - chunk.blocks) * block))
-        ∙ ap (λ (x : ℕ). take x (cells_of block source chunk ++ rest)) (sym (whole-place block n source chunk f own k.1))))
-      (λ k. rw k.0 (cut-chunk block n source chunk rest f own (omega arith)))
-      (leb_tells chunk.blocks n)
+    (λ k. rw k.0 (ap (λ (xs : List Cell). cells_of block source chunk ++ xs) (first-cells block source f chunks (n - chunk.blocks) others)
+    ∙ sym (take-append-add (cells_of block source chunk) rest ((n - chunk.blocks) * block))
+    ∙ ap (λ (x : ℕ). take x (cells_of block source chunk ++ rest)) (sym (whole-place block n source chunk f own k.1))))
+    (λ k. rw k.0 (cut-chunk block n source chunk rest f own (omega arith)))
+    (leb_tells chunk.blocks n)
 
 pub behind-cells : (block : ℕ) (source : List ℕ) → block % 4 ≡ 0 → (chunks : List Chunk) (n : ℕ) → All (IsChunk block (length source)) chunks →
     flat_map (cells_of block source) (behind_blocks block n chunks) ≡ drop (n * block) (flat_map (cells_of block source) chunks)
@@ -113,8 +113,8 @@ behind-cells block source f (chunk ∷ chunks) n w =
     let others = All-tail (IsChunk block (length source)) chunk chunks w in
     let rest = flat_map (cells_of block source) chunks in
     ⊎_elim
-      (λ k. rw k.0 (behind-cells block source f chunks (n - chunk.blocks) others
-        ∙ sym (drop-append-add (cells_of block source chunk) rest ((n - chunk.blocks) * block))
-        ∙ ap (λ (x : ℕ). drop x (cells_of block source chunk ++ rest)) (sym (whole-place block n source chunk f own k.1))))
-      (λ k. rw k.0 (rest-chunk block n source chunk rest f own (omega arith)))
-      (leb_tells chunk.blocks n)
+    (λ k. rw k.0 (behind-cells block source f chunks (n - chunk.blocks) others
+    ∙ sym (drop-append-add (cells_of block source chunk) rest ((n - chunk.blocks) * block))
+    ∙ ap (λ (x : ℕ). drop x (cells_of block source chunk ++ rest)) (sym (whole-place block n source chunk f own k.1))))
+    (λ k. rw k.0 (rest-chunk block n source chunk rest f own (omega arith)))
+    (leb_tells chunk.blocks n)

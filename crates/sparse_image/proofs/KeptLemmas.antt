@@ -36,12 +36,13 @@ kept-step : (block len blocks more : ℕ) (chunk : Chunk) (chunks : List Chunk) 
     AreKept block len blocks (suc more) (kept chunk chunks)
 kept-step block len blocks more chunk chunks due own others =
     ⊎_elim
-      (λ k. rw k.0 (record { total = omega (arith, others.total, k.1); few = omega (arith, others.few); each = others.each }))
-      (λ k. rw k.0 (record {
-        total = sum_by-cons (λ (c : Chunk). c.blocks) chunk chunks ∙ omega (arith, others.total);
-        few = omega (arith, others.few);
-        each = All-cons (IsChunk block len) chunk chunks own others.each }))
-      (eqb_tells chunk.blocks 0)
+    (λ k. rw k.0 (record { total = omega (arith, others.total, k.1); few = omega (arith, others.few); each = others.each }))
+    (λ k. rw k.0 (record {
+      total = sum_by-cons (λ (c : Chunk). c.blocks) chunk chunks ∙ omega (arith, others.total);
+      few = omega (arith, others.few);
+      each = All-cons (IsChunk block len) chunk chunks own others.each;
+    }))
+    (eqb_tells chunk.blocks 0)
 
 own-chunk : (block blocks place : ℕ) (file : List ℕ) (chunk : Chunk) → place ≤ length file → front_of block blocks place (length (drop place file)) (drop place file) ≡ Ok chunk → IsChunk block (length file) chunk
 own-chunk block blocks place file chunk l h =
@@ -58,7 +59,7 @@ walked-join : (more block blocks place : ℕ) (file : List ℕ) (chunk : Chunk) 
     AreKept block (length file) (blocks - chunk.blocks) more others → ◌≡◌ {A = Result (List Chunk) SparseError} (Ok (kept chunk others)) (Ok chunks) → AreKept block (length file) blocks (suc more) chunks
 walked-join more block blocks place file chunk others chunks l h w e =
     subst (λ (xs : List Chunk). AreKept block (length file) blocks (suc more) xs) (same-chunks (kept chunk others) chunks e)
-      (kept-step block (length file) blocks more chunk others (front-due block blocks place (length (drop place file)) (drop place file) chunk h) (own-chunk block blocks place file chunk l h) w)
+    (kept-step block (length file) blocks more chunk others (front-due block blocks place (length (drop place file)) (drop place file) chunk h) (own-chunk block blocks place file chunk l h) w)
 
 walked-rest : (more block blocks place len : ℕ) (file : List ℕ) (chunks : List Chunk) → walked more block blocks (place + len) (drop len (drop place file)) ≡ Ok chunks → walked more block blocks (place + len) (drop (place + len) file) ≡ Ok chunks
 walked-rest more block blocks place len file chunks h = rw (← drop-drop len place file) h
@@ -71,10 +72,10 @@ walked-kept (suc more) block blocks place file chunks l h =
     let a = then-ok (front_of block blocks place (length (drop place file)) (drop place file)) (λ chunk. walked more block (blocks - chunk.blocks) (place + chunk_len block chunk) (drop (chunk_len block chunk) (drop place file)) then_on λ cs. Ok (kept chunk cs)) chunks h in
     let b = then-ok (walked more block (blocks - a.0.blocks) (place + chunk_len block a.0) (drop (chunk_len block a.0) (drop place file))) (λ cs. Ok (kept a.0 cs)) chunks a.2 in
     walked-join more block blocks place file a.0 b.0 chunks l a.1
-      (walked-kept more block (blocks - a.0.blocks) (place + chunk_len block a.0) file b.0
-        (omega (arith, front-within block blocks place (length (drop place file)) (drop place file) a.0 a.1, length-drop place file))
-        (walked-rest more block (blocks - a.0.blocks) place (chunk_len block a.0) file b.0 b.1))
-      b.2
+    (walked-kept more block (blocks - a.0.blocks) (place + chunk_len block a.0) file b.0
+    (omega (arith, front-within block blocks place (length (drop place file)) (drop place file) a.0 a.1, length-drop place file))
+    (walked-rest more block (blocks - a.0.blocks) place (chunk_len block a.0) file b.0 b.1))
+    b.2
 
 -- what holds of all that is kept of a file
 pub record IsWell (kept : Kept) (source : List ℕ) : Type 0 where
@@ -84,7 +85,6 @@ pub record IsWell (kept : Kept) (source : List ℕ) : Type 0 where
   pub some : 0 < kept.blocks
   pub short : kept.blocks * kept.block ≤ 2 ^ 44
   pub chunks : AreKept kept.block (length source) kept.blocks 1000000 kept.chunks
-
 
 fewer : (block len blocks n m : ℕ) (chunks : List Chunk) → n ≤ m → AreKept block len blocks n chunks → AreKept block len blocks m chunks
 fewer block len blocks n m chunks h w = record { total = w.total; few = omega (arith, w.few); each = w.each }
@@ -128,9 +128,9 @@ well-sparse file kept h =
 well-raw : (file : List ℕ) (kept : Kept) → 0 < length file → raw_checked file ≡ Ok kept → IsWell kept (source_of kept file)
 well-raw file kept some h =
     ⊎_elim
-      (λ k. subst (λ (x : Kept). IsWell x (source_of x file)) (same-kept (raw_kept file) kept (rw k.0 at h)) (raw-well file some (omega (arith, k.1))))
-      (λ k. absurd (no-err (flaw TooLong 0) kept (rw k.0 at h)))
-      (leb_tells (suc (round_up (length file))) (2 ^ 44))
+    (λ k. subst (λ (x : Kept). IsWell x (source_of x file)) (same-kept (raw_kept file) kept (rw k.0 at h)) (raw-well file some (omega (arith, k.1))))
+    (λ k. absurd (no-err (flaw TooLong 0) kept (rw k.0 at h)))
+    (leb_tells (suc (round_up (length file))) (2 ^ 44))
 
 well-by : (file : List ℕ) (kept : Kept) (b : Bool) → 0 < length file → (if b then sparse_checked else raw_checked) file ≡ Ok kept → IsWell kept (source_of kept file)
 well-by file kept true some h = well-sparse file kept h
@@ -140,6 +140,6 @@ well-by file kept false some h = well-raw file kept some h
 pub kept-well : (file : List ℕ) (kept : Kept) → checked file ≡ Ok kept → IsWell kept (source_of kept file)
 kept-well file kept h =
     ⊎_elim
-      (λ k. absurd (no-err (flaw Empty 0) kept (rw k.0 at h)))
-      (λ k. well-by file kept (is_sparse file) (grind (arith, nat_tests)) (rw k.0 at h))
-      (eqb_tells (length file) 0)
+    (λ k. absurd (no-err (flaw Empty 0) kept (rw k.0 at h)))
+    (λ k. well-by file kept (is_sparse file) (grind (arith, nat_tests)) (rw k.0 at h))
+    (eqb_tells (length file) 0)

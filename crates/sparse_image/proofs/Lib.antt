@@ -7,3 +7,5 @@ pub mod CheckLemmas
 pub mod SpellLemmas
 pub mod CutLemmas
 pub mod KeptLemmas
+pub mod PutLemmas
+pub mod PieceLemmas

@@ -89,10 +89,10 @@ spelled-step more block total source chunk rest cells w due h =
     let t : take len (drop 12 bytes) ≡ content = take_at content rest len l in
     let e = ap (λ (x : ℕ). data_size x (u32_at 4 bytes) block) k ∙ ap (λ (x : ℕ). data_size kind x block) b ∙ data-size block chunk in
     let r : chunks_cells more block (total - u32_at 4 bytes) (drop (12 + len) bytes) ≡ Some cells =
-      ap (λ (x : ℕ). chunks_cells more block (total - x) (drop (12 + len) bytes)) b ∙ ap (λ (xs : List ℕ). chunks_cells more block (total - chunk.blocks) xs) d ∙ h in
+    ap (λ (x : ℕ). chunks_cells more block (total - x) (drop (12 + len) bytes)) b ∙ ap (λ (xs : List ℕ). chunks_cells more block (total - chunk.blocks) xs) d ∙ h in
     let own = ap (λ (xs : List ℕ). chunk_cells (u16_at 0 bytes) (u32_at 4 bytes) block xs) t ∙ ap (λ (x : ℕ). chunk_cells x (u32_at 4 bytes) block content) k ∙ ap (λ (x : ℕ). chunk_cells kind x block content) b ∙ data-cells block chunk.blocks source chunk.content in
     step-known block total (length bytes) (head_of bytes) len (λ x. chunks_cells more block (total - u32_at 4 bytes) (drop (12 + x) bytes)) (λ x. chunk_cells (u16_at 0 bytes) (u32_at 4 bytes) block (take x (drop 12 bytes))) cells
-      e (omega (arith, length-append content rest, l)) (omega (arith, b)) s r
+    e (omega (arith, length-append content rest, l)) (omega (arith, b)) s r
     ∙ ap (λ (front : List Cell). Some (front ++ cells)) own
 
 spelled-none : (block : ℕ) → chunks_cells zero block 0 [] ≡ Some []
@@ -107,7 +107,7 @@ spelled-cells block source (chunk ∷ chunks) total w e =
     let own = All-head (IsSpelled block (length source)) chunk chunks w in
     let others = All-tail (IsSpelled block (length source)) chunk chunks w in
     spelled-step (length chunks) block total source chunk (flat_map (chunk_bytes block source) chunks) (flat_map (cells_of block source) chunks) own (omega arith)
-      (spelled-cells block source chunks (total - chunk.blocks) others (omega arith))
+    (spelled-cells block source chunks (total - chunk.blocks) others (omega arith))
 
 good-now : (len block blocks chunks : ℕ) → 28 ≤ len → block % 512 ≡ 0 → 512 ≤ block → block ≤ 65536 → 0 < blocks → blocks * block ≤ 2 ^ 44 → chunks ≤ 1000000 → good_by len 1 0 28 12 block blocks chunks ≡ true
 good-now len block blocks chunks l m low high some short few = grind (arith, nat_tests)
@@ -124,9 +124,9 @@ spelled-image block blocks source chunks m low high some fits short few w e =
     let k : u32_at 20 file ≡ length chunks = from_le_bytes-to_le_bytes_4 (length chunks) (omega arith) in
     let g : good_by (length file) 1 0 28 12 block blocks (length chunks) ≡ true = good-now (length file) block blocks (length chunks) (omega (arith, length-append (header_bytes block blocks (length chunks)) body)) m low high some short few in
     let good : header_is_good file ≡ true =
-      ap (λ (x : ℕ). good_by (length file) 1 0 28 12 x (u32_at 16 file) (u32_at 20 file)) b
-      ∙ ap (λ (x : ℕ). good_by (length file) 1 0 28 12 block x (u32_at 20 file)) n
-      ∙ ap (λ (x : ℕ). good_by (length file) 1 0 28 12 block blocks x) k ∙ g in
+    ap (λ (x : ℕ). good_by (length file) 1 0 28 12 x (u32_at 16 file) (u32_at 20 file)) b
+    ∙ ap (λ (x : ℕ). good_by (length file) 1 0 28 12 block x (u32_at 20 file)) n
+    ∙ ap (λ (x : ℕ). good_by (length file) 1 0 28 12 block blocks x) k ∙ g in
     image-sparse file (omega (arith, length-append (header_bytes block blocks (length chunks)) body)) refl
     ∙ ap (λ (x : Bool). needs x >>= λ _. chunks_cells (u32_at 20 file) (u32_at 12 file) (u32_at 16 file) (drop 28 file)) good
     ∙ ap (λ (x : ℕ). chunks_cells (u32_at 20 file) x (u32_at 16 file) body) b

@@ -85,3 +85,13 @@ pub record IsImage (found : Option (List Cell)) (left : Left) : Type 0 where
   pub cells : found ≡ Some left.cells
   pub at : left.at ≡ 0
   pub len : left.len ≡ length left.cells
+
+-- these runs were given, one after another, and then none
+abbrev pub AreGiven : Left → List Run → Type 0
+AreGiven left [] = (now : Left) × Gives left None now
+AreGiven left (run ∷ runs) = (now : Left) × (Gives left (Some run) now × AreGiven now runs)
+
+-- bytes after runs are put over them, each at its place
+abbrev pub put_runs : List Run → List ℕ → List ℕ
+put_runs [] old = old
+put_runs (run ∷ runs) old = put_runs runs (over (replicate (run_at run) Skip ++ run_cells run) old)

@@ -2,7 +2,7 @@
 //! and splitting them into pieces that a device with a small download buffer takes.
 #![tactic(auto)]
 
-ghost use Rattle.sparse_image.specs.Laws.{WalkAgrees};
+ghost use Rattle.sparse_image.specs.Laws.{WalkAgrees, PieceImage, PieceLength, PiecesPut, RunsPut};
 
 pub mod chunk;
 pub mod errors;
@@ -17,6 +17,10 @@ pub mod writes;
 /// The laws of the definitions.
 pub fn laws()
     ensures walk_agrees { WalkAgrees }
+    ensures piece_image { PieceImage }
+    ensures piece_length { PieceLength }
+    ensures pieces_put { PiecesPut }
+    ensures runs_put { RunsPut }
 {}
 
 #[cfg(test)]
