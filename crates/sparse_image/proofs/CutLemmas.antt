@@ -1,11 +1,11 @@
 -- The cells of the first blocks of chunks, and of those behind them.
-use Rattle.std.proofs.Common.{◌≡◌, ℕ, zero, suc, ◌+◌, ◌-◌, ◌*◌, ◌<◌, ◌≤◌, Bool, true, false, cond, leb, List, [], ◌∷◌, ◌++◌, length, take, drop, map, replicate, length-append, refl, sym, ap, ◌∙◌, subst, arith, ⊎_elim, zero-mul}
-use Rattle.std.specs.Prelude.{◌/◌, ◌%◌, nat_le, ◌==◌, if◌then◌else◌}
-use Rattle.std.specs.List.{flat_map, sum_by, All}
+use Rattle.std.proofs.Common.{◌≡◌, ℕ, zero, suc, ◌+◌, ◌-◌, ◌*◌, ◌≤◌, List, [], ◌∷◌, ◌++◌, length, take, drop, map, refl, sym, ap, ◌∙◌, arith, ⊎_elim, zero-mul}
+use Rattle.std.specs.Prelude.{◌/◌, ◌%◌, ◌==◌, if◌then◌else◌}
+use Rattle.std.specs.List.{flat_map, All}
 use Rattle.std.proofs.Math.Seq.{take-nil, drop-nil, take-append-add, drop-append-add}
 use Rattle.std.proofs.Math.Nat.{mul-le-mul_right}
-use Rattle.std.proofs.lemmas.Bool.Decides.{nat_tests, leb_tells, eqb_tells}
-use Rattle.std.proofs.lemmas.List.{take-take, drop-drop, take-map, drop-map, drop-take, take-append-le, drop-append-le, take-replicate, drop-replicate, append-nil, append_assoc, length-replicate, length-map}
+use Rattle.std.proofs.lemmas.Bool.Decides.{leb_tells, eqb_tells}
+use Rattle.std.proofs.lemmas.List.{take-take, drop-drop, take-map, drop-map, drop-take, take-append-le, drop-append-le, take-replicate, drop-replicate, append-nil, length-map}
 use Rattle.std.proofs.lemmas.List.Elements.{All-head, All-tail}
 use Rattle.dev_model.specs.Images.{copies}
 use Rattle.dev_model.specs.declared.cells.Cell.{Cell}
@@ -14,7 +14,7 @@ use Rattle.sparse_image.specs.declared.chunk.Content.{Content}
 use Rattle.sparse_image.specs.declared.chunk.Content.TheVariants.{Raw, Fill, DontCare}
 use Rattle.sparse_image.specs.declared.chunk.Chunk.{Chunk}
 use Rattle.sparse_image.specs.Walks.{cells_of, content_cells, LiesIn, HasFour}
-use Rattle.sparse_image.specs.Pieces.{first_blocks, behind_blocks, content_behind, hole}
+use Rattle.sparse_image.specs.Pieces.{first_blocks, behind_blocks, content_behind}
 use Rattle.sparse_image.proofs.WalkLemmas.{length-cells}
 use Rattle.sparse_image.proofs.RunLemmas.{fours, spent}
 

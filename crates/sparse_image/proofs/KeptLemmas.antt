@@ -1,6 +1,6 @@
 -- What is kept of a file is well.
-use Rattle.std.proofs.Common.{◌≡◌, ℕ, zero, suc, ◌+◌, ◌-◌, ◌*◌, ◌<◌, ◌≤◌, Bool, true, false, List, [], ◌∷◌, ◌++◌, length, take, drop, map, replicate, length-append, length-drop, Option, Some, None, Result, Ok, Err, refl, sym, ap, ◌∙◌, subst, arith, ⊎_elim, zero-add}
-use Rattle.std.specs.Prelude.{◌^◌, ◌/◌, ◌%◌, ◌==◌, nat_lt, if◌then◌else◌}
+use Rattle.std.proofs.Common.{◌≡◌, ℕ, zero, suc, ◌+◌, ◌-◌, ◌*◌, ◌<◌, ◌≤◌, Bool, true, false, List, [], length, drop, length-drop, Result, Ok, Err, refl, ◌∙◌, subst, arith, ⊎_elim, zero-add}
+use Rattle.std.specs.Prelude.{◌^◌, ◌/◌, ◌%◌, if◌then◌else◌}
 use Rattle.std.specs.List.{sum_by, All}
 use Rattle.std.proofs.lemmas.List.{drop-drop}
 use Rattle.std.proofs.lemmas.List.Sums.{sum_by-cons}
@@ -10,9 +10,8 @@ use Rattle.dev_model.specs.Images.{is_sparse, round_up}
 use Rattle.sparse_image.specs.declared.errors.SparseError.{SparseError}
 use Rattle.sparse_image.specs.declared.chunk.Chunk.{Chunk}
 use Rattle.sparse_image.specs.declared.walk.Header.{Header}
-use Rattle.sparse_image.specs.Walks.{Kept, checked, sparse_checked, raw_checked, raw_kept, header_of, IsFine, front_of, walked, kept, chunk_len, source_of, or_flaw, end_flaw, LiesIn, HasFour, flaw, ◌then_on◌}
+use Rattle.sparse_image.specs.Walks.{Kept, checked, sparse_checked, raw_checked, raw_kept, header_of, front_of, walked, kept, chunk_len, source_of, or_flaw, end_flaw, LiesIn, flaw, ◌then_on◌}
 use Rattle.sparse_image.specs.declared.errors.SparseKind.TheVariants.{TooLong, Empty}
-use Rattle.sparse_image.specs.declared.chunk.Content.TheVariants.{Raw}
 use Rattle.sparse_image.proofs.WalkLemmas.{front-lies, front-four, front-due, front-within, header-fine, header-long, padded-length}
 use Rattle.sparse_image.proofs.CutLemmas.{IsChunk}
 

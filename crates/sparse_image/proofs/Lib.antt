@@ -9,3 +9,4 @@ pub mod CutLemmas
 pub mod KeptLemmas
 pub mod PutLemmas
 pub mod PieceLemmas
+pub mod ReachLemmas

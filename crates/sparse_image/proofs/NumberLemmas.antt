@@ -1,5 +1,5 @@
 -- Little-endian numbers, as the program reads them and as the definitions do.
-use Rattle.std.proofs.Common.{◌≡◌, ℕ, ◌+◌, ◌*◌, ◌≤◌, List, [], ◌∷◌, length, take, drop, refl, arith}
+use Rattle.std.proofs.Common.{◌≡◌, ℕ, List, [], ◌∷◌, take, refl, arith}
 use Rattle.std.specs.Int.{w16, w32, from_le_bytes}
 use Rattle.byteorder.specs.Endian.{little_number}
 

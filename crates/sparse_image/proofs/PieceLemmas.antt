@@ -1,24 +1,24 @@
 -- Each piece is a file with an image, and the pieces put over in order are the whole.
-use Rattle.std.proofs.Common.{◌≡◌, ℕ, zero, suc, ◌+◌, ◌-◌, ◌*◌, ◌<◌, ◌≤◌, Bool, true, false, cond, min, List, [], ◌∷◌, ◌++◌, length, take, drop, map, replicate, length-append, length-drop, length-take, Option, Some, None, Result, Ok, Err, refl, sym, ap, ◌∙◌, subst, arith, ⊎_elim, zero-mul}
-use Rattle.std.specs.Prelude.{◌^◌, ◌/◌, ◌%◌, ◌==◌, if◌then◌else◌}
+use Rattle.std.proofs.Common.{◌≡◌, ℕ, ◌-◌, ◌*◌, ◌<◌, ◌≤◌, min, List, [], ◌∷◌, ◌++◌, length, take, drop, replicate, length-append, Some, Ok, refl, sym, ap, ◌∙◌, arith, ⊎_elim, zero-mul}
+use Rattle.std.specs.Prelude.{◌^◌, ◌%◌}
 use Rattle.std.specs.List.{flat_map, sum_by, All}
 use Rattle.std.proofs.Math.Nat.{mul-le-mul_right}
-use Rattle.std.proofs.lemmas.Bool.Decides.{nat_tests, leb_tells, eqb_tells}
-use Rattle.std.proofs.lemmas.List.{append-nil, drop_all, take-append-drop, length-replicate}
+use Rattle.std.proofs.lemmas.Bool.Decides.{leb_tells, eqb_tells}
+use Rattle.std.proofs.lemmas.List.{append-nil, drop_all, take-append-drop}
 use Rattle.std.proofs.lemmas.List.Concat.{flat_map-append}
 use Rattle.std.proofs.lemmas.List.Sums.{sum_by-cons, sum_by-append}
 use Rattle.std.proofs.lemmas.List.Elements.{All-nil, All-cons, All-head, All-tail, All-append}
-use Rattle.dev_model.specs.Images.{image, over}
+use Rattle.dev_model.specs.Images.{over}
 use Rattle.dev_model.specs.declared.cells.Cell.{Cell}
-use Rattle.dev_model.specs.declared.cells.Cell.TheVariants.{Byte, Skip}
+use Rattle.dev_model.specs.declared.cells.Cell.TheVariants.{Skip}
 use Rattle.sparse_image.specs.declared.chunk.Chunk.{Chunk}
 use Rattle.sparse_image.specs.declared.chunk.Content.{Content}
 use Rattle.sparse_image.specs.declared.chunk.Content.TheVariants.{Raw, Fill, DontCare}
-use Rattle.sparse_image.specs.Walks.{Kept, checked, kept_cells, source_of, cells_of, content_cells, chunk_len, LiesIn, HasFour}
-use Rattle.sparse_image.specs.Pieces.{first_blocks, behind_blocks, content_behind, hole, piece_chunks, piece_cells, piece_file, sparse_len, put_pieces, Fits, Rise}
+use Rattle.sparse_image.specs.Walks.{Kept, checked, kept_cells, source_of, cells_of, chunk_len, LiesIn, HasFour}
+use Rattle.sparse_image.specs.Pieces.{first_blocks, behind_blocks, content_behind, hole, piece_chunks, piece_cells, put_pieces, Rise}
 use Rattle.sparse_image.specs.Laws.{PieceImage, PieceLength, PiecesPut}
 use Rattle.sparse_image.proofs.CutLemmas.{IsChunk, first-cells, behind-cells, chunk-cells-long}
-use Rattle.sparse_image.proofs.KeptLemmas.{IsWell, kept-well}
+use Rattle.sparse_image.proofs.KeptLemmas.{kept-well}
 use Rattle.sparse_image.proofs.SpellLemmas.{IsSpelled, spelled-image}
 use Rattle.sparse_image.proofs.RunLemmas.{spent}
 use Rattle.sparse_image.proofs.PutLemmas.{middle-put}

@@ -1,11 +1,11 @@
 -- The runs of an image.
-use Rattle.std.proofs.Common.{◌≡◌, ℕ, zero, suc, ◌+◌, ◌-◌, ◌*◌, ◌<◌, ◌≤◌, List, [], ◌∷◌, ◌++◌, length, take, drop, map, replicate, Option, Some, None, Result, Ok, Err, refl, sym, ap, ◌∙◌, arith, rules, zero-add, length-append}
+use Rattle.std.proofs.Common.{◌≡◌, ℕ, zero, suc, ◌+◌, ◌-◌, ◌*◌, ◌<◌, ◌≤◌, List, [], ◌∷◌, ◌++◌, length, drop, map, replicate, Option, Some, None, Result, Ok, Err, refl, sym, ap, ◌∙◌, arith, zero-add, length-append}
 use Rattle.std.proofs.lemmas.Bool.{false≢true}
 use Rattle.std.proofs.lemmas.List.{length-replicate, append_assoc, replicate-append-replicate, append-nil, nil_from_length}
 use Rattle.std.specs.Prelude.{IsSome, unwrap_or, ◌/◌, ◌%◌, ◌^◌}
 use Rattle.std.specs.Result.{result_err}
 use Rattle.std.proofs.lemmas.Bool.Decides.{nat_tests}
-use Rattle.dev_model.specs.Options.{◌>>=◌, needs}
+use Rattle.dev_model.specs.Options.{◌>>=◌}
 use Rattle.dev_model.specs.Images.{chunks_cells, sparse_cells}
 use Rattle.dev_model.specs.declared.cells.Cell.{Cell}
 use Rattle.dev_model.specs.declared.cells.Cell.TheVariants.{Byte, Skip}
@@ -15,7 +15,7 @@ use Rattle.sparse_image.specs.declared.runs.Run.{Run}
 use Rattle.sparse_image.specs.declared.runs.Run.TheVariants.{Zeros}
 use Rattle.sparse_image.specs.declared.walk.Header.{Header}
 use Rattle.sparse_image.specs.Walks.{front_of, chunk_len, cells_of, LiesIn, IsFine, header_of, walked}
-use Rattle.sparse_image.specs.Runs.{Left, IsImage, GivesRun, Skips, Advances, AreWhole, chunks_left, run_at, run_cells}
+use Rattle.sparse_image.specs.Runs.{Left, IsImage, GivesRun, Skips, Advances, run_at, run_cells}
 use Rattle.sparse_image.proofs.WalkLemmas.{front-step, front-stops, front-lies, front-four, front-due, length-cells, walked-some, header-good}
 
 parts-whole : (found : Option (List Cell)) (own : List Cell) → IsSome (found >>= λ cells. Some (own ++ cells)) → IsSome found

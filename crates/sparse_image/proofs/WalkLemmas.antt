@@ -1,6 +1,6 @@
 -- The walk keeps the cells of the image, or the image isn't there.
-use Rattle.std.proofs.Common.{◌≡◌, ℕ, zero, suc, ◌+◌, ◌-◌, ◌*◌, ◌<◌, ◌≤◌, Bool, true, false, cond, ltb, leb, eqb, List, [], ◌∷◌, ◌++◌, length, take, drop, map, replicate, length-append, Option, Some, None, Result, Ok, Err, refl, sym, ap, ◌∙◌, arith, rules, zero-mul, ⊎_elim, subst}
-use Rattle.std.specs.Prelude.{◌&&◌, ◌||◌, not, ◌%◌, ◌^◌, ◌/◌, nat_le, nat_lt, ◌==◌, if◌then◌else◌}
+use Rattle.std.proofs.Common.{◌≡◌, ℕ, zero, suc, ◌+◌, ◌-◌, ◌*◌, ◌<◌, ◌≤◌, Bool, true, false, List, [], ◌++◌, length, take, drop, map, replicate, length-append, Option, Some, None, Result, Ok, Err, refl, sym, ap, ◌∙◌, arith, zero-mul, ⊎_elim, subst}
+use Rattle.std.specs.Prelude.{◌&&◌, ◌%◌, ◌^◌, ◌/◌, nat_le, nat_lt, ◌==◌, if◌then◌else◌}
 use Rattle.std.specs.Prelude.{IsSome}
 use Rattle.std.specs.Result.{result_err}
 use Rattle.std.specs.List.{flat_map}
@@ -11,11 +11,11 @@ use Rattle.dev_model.specs.Images.{data_size, image, header_is_good, sparse_cell
 use Rattle.dev_model.specs.declared.cells.Cell.{Cell}
 use Rattle.dev_model.specs.declared.cells.Cell.TheVariants.{Byte, Skip}
 use Rattle.sparse_image.specs.declared.errors.SparseError.{SparseError}
-use Rattle.sparse_image.specs.declared.errors.SparseKind.TheVariants.{Truncated, BadHeader, BadBlockSize, TooLong}
+use Rattle.sparse_image.specs.declared.errors.SparseKind.TheVariants.{Truncated, TooLong}
 use Rattle.sparse_image.specs.declared.chunk.Chunk.{Chunk}
 use Rattle.sparse_image.specs.declared.chunk.Content.{Content}
 use Rattle.sparse_image.specs.declared.chunk.Content.TheVariants.{Raw, Fill, DontCare}
-use Rattle.sparse_image.specs.Walks.{head_of, front_of, front_chunk, chunk_len, content_len, content_of, sized_chunk, flaw, Kept, checked, sparse_checked, raw_checked, form_flaw, size_flaw, or_flaw, sized_header, header_of, raw_kept, kept_cells, walked, kept, ◌then_on◌, cells_of, content_cells, LiesIn, HasFour, IsFine, fields_of}
+use Rattle.sparse_image.specs.Walks.{head_of, front_of, front_chunk, chunk_len, content_len, content_of, flaw, Kept, checked, sparse_checked, raw_checked, form_flaw, or_flaw, sized_header, header_of, raw_kept, kept_cells, walked, kept, ◌then_on◌, cells_of, content_cells, LiesIn, HasFour, IsFine, fields_of}
 use Rattle.sparse_image.specs.declared.walk.Header.{Header}
 use Rattle.sparse_image.specs.declared.walk.Head.{Head}
 use Rattle.sparse_image.specs.Laws.{Agrees, WalkAgrees}

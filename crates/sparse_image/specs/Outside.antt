@@ -1,5 +1,5 @@
 -- What calls do to sources and outs, which tell what they hold or don't.
-use Rattle.std.specs.Prelude.{◌≡◌, ◌≢◌, ℕ, ◌+◌, ◌<◌, ◌≤◌, List, ◌++◌, length, take, drop, Option, Some, None, IfSome}
+use Rattle.std.specs.Prelude.{◌≡◌, ℕ, ◌+◌, ◌<◌, ◌≤◌, List, ◌++◌, length, take, drop, Option, Some, None, IfSome}
 
 -- a told list has as many bytes as the length says
 abbrev pub HasLength : Option (List ℕ) → ℕ → Type 0

@@ -1,6 +1,6 @@
 -- The pieces of an image: sparse files (sparse_format.h, version 1.0) that are put one after another,
 -- each with a part of the image and skips before and behind it.
-use Rattle.std.specs.Prelude.{◌≡◌, ◌≤◌, ◌<◌, ℕ, zero, suc, ◌+◌, ◌-◌, ◌*◌, ◌/◌, ◌^◌, Bool, true, false, List, [], ◌∷◌, ◌++◌, length, take, drop, map, replicate, nat_le, ◌==◌, Option, Some, None, if◌then◌else◌}
+use Rattle.std.specs.Prelude.{◌≡◌, ◌≤◌, ◌<◌, ℕ, ◌+◌, ◌-◌, ◌*◌, List, [], ◌∷◌, ◌++◌, length, take, drop, replicate, nat_le, ◌==◌, if◌then◌else◌}
 use Rattle.std.specs.List.{flat_map, sum_by}
 use Rattle.std.specs.Int.{w16, w32, to_le_bytes}
 use Rattle.dev_model.specs.Images.{over}
@@ -9,7 +9,7 @@ use Rattle.dev_model.specs.declared.cells.Cell.TheVariants.{Skip}
 use Rattle.sparse_image.specs.declared.chunk.Content.{Content}
 use Rattle.sparse_image.specs.declared.chunk.Content.TheVariants.{Raw, Fill, DontCare}
 use Rattle.sparse_image.specs.declared.chunk.Chunk.{Chunk}
-use Rattle.sparse_image.specs.Walks.{Kept, content_len, chunk_len, kept_cells, source_of}
+use Rattle.sparse_image.specs.Walks.{Kept, chunk_len, kept_cells, source_of}
 
 -- the type that a header tells of a chunk
 abbrev pub kind_of : Content → ℕ

@@ -102,6 +102,7 @@ fn keeps_images(rt: HostRuntime) -> Result<(), Fail> {
 #[test]
 fn gives_runs(rt: HostRuntime) -> Result<(), Fail> {
     let file = sparse_row(rt.alloc())?;
+    assert_eq!(rt; file.len(), 4164);
     let mut left = runs(file.as_slice()).map_err(|_| "bad image")?;
     assert_eq!(rt; left.len(), 16_384);
     let Some(Run::Copy { at, bytes }) = left.next() else {

@@ -1,14 +1,11 @@
-use Rattle.std.proofs.Common.{◌≡◌, ℕ, ◌<◌, length, refl, sym, ap, ◌∙◌, arith, Ok, Err, true, false, List, Bool, Option}
-use Rattle.std.specs.Prelude.{IfSome, Result}
-use Rattle.std.proofs.lemmas.Bool.Decides.{nat_tests}
+use Rattle.std.proofs.Common.{◌≡◌, ℕ, length, arith, Ok, Err, List, Bool, Option}
+use Rattle.std.specs.Prelude.{IfSome}
 use Rattle.std.proofs.lemmas.Result.{err_from_is_err_and}
 use Rattle.dev_model.specs.Images.{is_sparse}
-use Rattle.sparse_image.specs.declared.errors.SparseError.{SparseError}
 use Rattle.sparse_image.specs.declared.errors.SparseKind.TheVariants.{Empty}
-use Rattle.sparse_image.specs.declared.index.CheckError.{CheckError}
 use Rattle.sparse_image.specs.declared.index.CheckError.TheVariants.{Bad}
 use Rattle.sparse_image.specs.Outside.{HasLength}
-use Rattle.sparse_image.specs.Walks.{Kept, checked, flaw}
+use Rattle.sparse_image.specs.Walks.{flaw}
 use Rattle.sparse_image.proofs.CheckLemmas.{checked-empty, checked-sparse, checked-raw, image-kept, image-bad}
 use Rattle.sparse_image.proofs.index.check.Goals as goal
 

@@ -1,6 +1,5 @@
-use Rattle.std.proofs.Common.{◌≡◌, ℕ, Ok, Err}
+use Rattle.std.proofs.Common.{◌≡◌, Err}
 use Rattle.std.proofs.lemmas.Result.{err_from_is_err_and}
-use Rattle.sparse_image.specs.declared.index.CheckError.{CheckError}
 use Rattle.sparse_image.specs.declared.index.CheckError.TheVariants.{Bad}
 use Rattle.sparse_image.proofs.CheckLemmas.{sparse-bad_chunks}
 use Rattle.sparse_image.proofs.index.check_sparse.Goals as goal

@@ -1,4 +1,4 @@
-use Rattle.std.proofs.Common.{◌≡◌, ℕ, ◌+◌, ◌-◌, min, length, take, drop, length-take, refl, sym, ap, ◌∙◌, arith, Ok, Err}
+use Rattle.std.proofs.Common.{◌≡◌, ℕ, length, length-take, refl, sym, ap, ◌∙◌, arith, Ok, Err}
 use Rattle.sparse_image.specs.declared.errors.SparseError.{SparseError}
 use Rattle.sparse_image.specs.declared.index.CheckError.{CheckError}
 use Rattle.sparse_image.specs.declared.index.CheckError.TheVariants.{Bad}

@@ -1,10 +1,7 @@
-use Rattle.std.proofs.Common.{◌≡◌, ℕ, suc, ◌+◌, ◌-◌, List, [], ◌++◌, length, length-append, take, drop, refl, sym, ap, ◌∙◌, subst, arith, Ok, Err}
-use Rattle.std.specs.Prelude.{Result, IfSome}
+use Rattle.std.proofs.Common.{◌≡◌, suc, ◌+◌, ◌-◌, [], ◌++◌, length-append, drop, refl, ◌∙◌, arith, Err}
 use Rattle.std.proofs.lemmas.Result.{err_from_is_err_and}
-use Rattle.sparse_image.specs.declared.index.CheckError.{CheckError}
 use Rattle.sparse_image.specs.declared.index.CheckError.TheVariants.{Bad}
-use Rattle.sparse_image.specs.declared.chunk.Chunk.{Chunk}
-use Rattle.sparse_image.specs.Walks.{walked, prepend, kept, AreWell}
+use Rattle.sparse_image.specs.Walks.{walked, kept}
 use Rattle.sparse_image.proofs.CheckLemmas.{told-next, told-stops, well-next, kept-short}
 use Rattle.sparse_image.proofs.index.read_chunks.Goals as goal
 

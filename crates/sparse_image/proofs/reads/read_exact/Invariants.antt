@@ -1,4 +1,4 @@
-use Rattle.std.proofs.Common.{◌≡◌, ◌+◌, ◌-◌, ◌≤◌, length}
+use Rattle.std.proofs.Common.{◌≡◌, ◌-◌, ◌≤◌, length}
 use Rattle.sparse_image.specs.Outside.{IsRead}
 use Rattle.sparse_image.proofs.reads.read_exact.Given as goal
 

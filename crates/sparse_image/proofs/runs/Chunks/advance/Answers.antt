@@ -1,4 +1,4 @@
-use Rattle.std.proofs.Common.{◌≡◌, ℕ, suc, ◌+◌, ◌-◌, ◌*◌, arith, rules, sym, ◌∙◌, ap, refl, length, take, drop}
+use Rattle.std.proofs.Common.{ℕ, ◌+◌, ◌-◌, ◌*◌, arith, sym, ◌∙◌, ap, refl, length, take, drop}
 use Rattle.std.proofs.lemmas.List.{take_rest}
 use Rattle.sparse_image.proofs.RunLemmas.{front-never, chunk-lies, chunk-long, chunk-advances, chunk-whole, blocks-spent}
 use Rattle.sparse_image.proofs.runs.Chunks.advance.Goals as goal

@@ -1,4 +1,4 @@
-use Rattle.std.proofs.Common.{◌≡◌, ℕ, List, length, take, drop, sym, subst, arith}
+use Rattle.std.proofs.Common.{ℕ, List, sym, subst}
 use Rattle.std.proofs.lemmas.List.{take_rest}
 use Rattle.dev_model.specs.Images.{sparse_cells}
 use Rattle.sparse_image.specs.Runs.{IsImage}
