@@ -21,10 +21,10 @@ pub record AreKept (block len blocks more : ℕ) (chunks : List Chunk) : Type 0 
   pub few : length chunks ≤ more
   pub each : All (IsChunk block len) chunks
 
-no-err : {Y : Type 0} (e : SparseError) (y : Y) → ◌≡◌ {A = Result Y SparseError} (Err e) (Ok y) → ⊥
+pub no-err : {Y : Type 0} (e : SparseError) (y : Y) → ◌≡◌ {A = Result Y SparseError} (Err e) (Ok y) → ⊥
 no-err e y h = cc
 
-then-ok : {X Y : Type 0} (r : Result X SparseError) (f : X → Result Y SparseError) (y : Y) → (r then_on f) ≡ Ok y → (x : X) × (r ≡ Ok x) × (f x ≡ Ok y)
+pub then-ok : {X Y : Type 0} (r : Result X SparseError) (f : X → Result Y SparseError) (y : Y) → (r then_on f) ≡ Ok y → (x : X) × (r ≡ Ok x) × (f x ≡ Ok y)
 then-ok (Ok x) f y h = (x, refl, h)
 then-ok (Err e) f y h = absurd (no-err e y h)
 
@@ -115,7 +115,7 @@ raw-well file some h = record {
   };
 }
 
-same-kept : (a b : Kept) → ◌≡◌ {A = Result Kept SparseError} (Ok a) (Ok b) → a ≡ b
+pub same-kept : (a b : Kept) → ◌≡◌ {A = Result Kept SparseError} (Ok a) (Ok b) → a ≡ b
 same-kept a b h = cc
 
 well-sparse : (file : List ℕ) (kept : Kept) → sparse_checked file ≡ Ok kept → IsWell kept (source_of kept file)

@@ -10,3 +10,4 @@ pub mod KeptLemmas
 pub mod PutLemmas
 pub mod PieceLemmas
 pub mod ReachLemmas
+pub mod WholeLemmas

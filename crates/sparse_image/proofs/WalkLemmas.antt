@@ -196,7 +196,7 @@ sparse-agrees file = sparse-on file (header_of (length file) file) refl
 pub padded-length : (file : List ℕ) → length (file ++ replicate (round_up (length file) - length file) 0) ≡ round_up (length file) / 4096 * 4096
 padded-length file = simp (length-append, length-replicate) (omega arith)
 
-raw-cells : (file : List ℕ) → map Byte (file ++ replicate (round_up (length file) - length file) 0) ≡ kept_cells (raw_kept file) file
+pub raw-cells : (file : List ℕ) → map Byte (file ++ replicate (round_up (length file) - length file) 0) ≡ kept_cells (raw_kept file) file
 raw-cells file =
     let whole : take (round_up (length file) / 4096 * 4096) (file ++ replicate (round_up (length file) - length file) 0) ≡ file ++ replicate (round_up (length file) - length file) 0 = take_all _ _ (omega (arith, padded-length file)) in
     sym (append-nil (map Byte (take (round_up (length file) / 4096 * 4096) (file ++ replicate (round_up (length file) - length file) 0))) ∙ ap (map Byte) whole)

@@ -3,7 +3,7 @@ use Rattle.std.specs.Prelude.{◌≡◌, ◌<◌, ◌≤◌, ◌^◌, ℕ, List,
 use Rattle.dev_model.specs.Images.{image, over}
 use Rattle.dev_model.specs.declared.cells.Cell.{Cell}
 use Rattle.sparse_image.specs.declared.errors.SparseError.{SparseError}
-use Rattle.sparse_image.specs.Walks.{Kept, checked, kept_cells}
+use Rattle.sparse_image.specs.Walks.{Kept, checked, kept_cells, source_of}
 use Rattle.sparse_image.specs.declared.runs.Run.{Run}
 use Rattle.sparse_image.specs.Runs.{Left, IsImage, AreGiven, put_runs}
 use Rattle.sparse_image.specs.Pieces.{Fits, piece_file, piece_cells, put_pieces, Rise}
@@ -25,6 +25,10 @@ PieceImage = (file : List ℕ) (kept : Kept) (max first last : ℕ) → checked 
 -- that image is as long as the whole one
 abbrev pub PieceLength : Type 0
 PieceLength = (file : List ℕ) (kept : Kept) (first last : ℕ) → checked file ≡ Ok kept → first ≤ last → last ≤ kept.blocks → length (piece_cells kept file first last) ≡ length (kept_cells kept file)
+
+-- a file that is sent whole, a raw one with its padding, has the image of the file that was checked
+abbrev pub WholeImage : Type 0
+WholeImage = (file : List ℕ) (kept : Kept) → checked file ≡ Ok kept → image (source_of kept file) ≡ Some (kept_cells kept file)
 
 -- the pieces put over in order are the whole image put over
 abbrev pub PiecesPut : Type 0

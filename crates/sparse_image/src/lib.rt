@@ -2,7 +2,7 @@
 //! and splitting them into pieces that a device with a small download buffer takes.
 #![tactic(auto)]
 
-ghost use Rattle.sparse_image.specs.Laws.{WalkAgrees, PieceImage, PieceLength, PiecesPut, RunsPut};
+ghost use Rattle.sparse_image.specs.Laws.{WalkAgrees, PieceImage, PieceLength, PiecesPut, RunsPut, WholeImage};
 
 pub mod chunk;
 pub mod errors;
@@ -21,6 +21,7 @@ pub fn laws()
     ensures piece_length { PieceLength }
     ensures pieces_put { PiecesPut }
     ensures runs_put { RunsPut }
+    ensures whole_image { WholeImage }
 {}
 
 #[cfg(test)]

@@ -1,6 +1,7 @@
 use Rattle.sparse_image.proofs.WalkLemmas.{walk-agrees}
 use Rattle.sparse_image.proofs.PieceLemmas.{piece-image, piece-length, pieces-put}
 use Rattle.sparse_image.proofs.PutLemmas.{runs-put}
+use Rattle.sparse_image.proofs.WholeLemmas.{whole-image}
 use Rattle.sparse_image.proofs.laws.Goals as goal
 
 pub returns : goal.returns
@@ -10,4 +11,5 @@ returns c = record {
   piece_length = piece-length;
   pieces_put = pieces-put;
   runs_put = runs-put;
+  whole_image = whole-image;
 }
