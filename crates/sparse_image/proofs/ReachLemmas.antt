@@ -1,11 +1,14 @@
 -- How far a piece reaches: a greedy walk over the chunks ends at the greatest place.
 use Rattle.std.proofs.Common.{◌≡◌, ℕ, zero, suc, ◌+◌, ◌-◌, ◌*◌, ◌<◌, ◌≤◌, List, [], ◌∷◌, ◌++◌, length, length-append, refl, ap, ◌∙◌, arith, ⊎_elim, ◌⊎◌, inl, inr}
+use Rattle.std.specs.Prelude.{true, false, nat_le}
 use Rattle.std.specs.List.{sum_by, All}
-use Rattle.std.proofs.lemmas.Bool.Decides.{leb_tells, eqb_tells}
+use Rattle.std.proofs.lemmas.Bool.Decides.{nat_tests, leb_tells, eqb_tells}
 use Rattle.std.proofs.lemmas.List.Sums.{sum_by-cons, sum_by-append}
 use Rattle.sparse_image.specs.declared.chunk.Chunk.{Chunk}
 use Rattle.sparse_image.specs.Walks.{Kept, content_len, chunk_len}
-use Rattle.sparse_image.specs.Pieces.{first_blocks, behind_blocks, hole, piece_chunks, sparse_len, Fits}
+use Rattle.sparse_image.specs.declared.chunk.Content.{Content}
+use Rattle.sparse_image.specs.declared.chunk.Content.TheVariants.{Raw, Fill, DontCare}
+use Rattle.sparse_image.specs.Pieces.{first_blocks, behind_blocks, content_behind, hole, piece_chunks, sparse_len, Fits}
 
 some-or : (n : ℕ) → (0 < n) ⊎ (n ≡ 0)
 some-or zero = inr refl
@@ -166,3 +169,32 @@ stuck-greatest kept max first done chunk more part s place fits =
     (λ j. part-reach kept max first done chunk more part place (place - here) s e fits (omega (arith, k)) j)
     (below-or chunk.blocks (place - here))))
     (below-or place (here + part))
+
+content-twice : (a b block : ℕ) (content : Content) → content_behind (b * block) (content_behind (a * block) content) ≡ content_behind ((a + b) * block) content
+content-twice a b block (Raw place) = ap Raw (omega arith)
+content-twice a b block (Fill pattern) = refl
+content-twice a b block DontCare = refl
+
+same-rest : (a b block : ℕ) (chunk : Chunk) (n : ℕ) → n ≡ chunk.blocks - (a + b) →
+    ◌≡◌ {A = Chunk} (record { blocks = chunk.blocks - a - b; content = content_behind (b * block) (content_behind (a * block) chunk.content) }) (record { blocks = n; content = content_behind ((a + b) * block) chunk.content })
+same-rest a b block chunk n e =
+    let k : chunk.blocks - a - b ≡ n = omega (arith, e) in
+    ap (λ (x : ℕ). record { blocks = x; content = content_behind (b * block) (content_behind (a * block) chunk.content) }) k
+    ∙ ap (λ (x : Content). record { blocks = n; content = x }) (content-twice a b block chunk.content)
+
+-- what is behind more blocks is behind the rest of them, behind the first of them
+pub behind-twice : (block a b : ℕ) (chunks : List Chunk) → behind_blocks block b (behind_blocks block a chunks) ≡ behind_blocks block (a + b) chunks
+behind-twice block a b [] = refl
+behind-twice block a b (chunk ∷ chunks) =
+    ⊎_elim
+    (λ k. ⊎_elim
+    (λ j. rw (k.0, j.0) (behind-twice block (a - chunk.blocks) b chunks ∙ ap (λ (x : ℕ). behind_blocks block x chunks) (omega (arith, k.1))))
+    (λ j. absurd (omega (arith, k.1, j.1)))
+    (leb_tells chunk.blocks (a + b)))
+    (λ k. ⊎_elim
+    (λ j. let m : nat_le (chunk.blocks - a) b ≡ true = grind (arith, nat_tests) in
+    rw (k.0, j.0, m) (ap (λ (x : ℕ). behind_blocks block x chunks) (omega (arith, k.1, j.1))))
+    (λ j. let m : nat_le (chunk.blocks - a) b ≡ false = grind (arith, nat_tests) in
+    rw (k.0, j.0, m) (ap (λ (x : Chunk). x ∷ chunks) (same-rest a b block chunk (chunk.blocks - (a + b)) refl)))
+    (leb_tells chunk.blocks (a + b)))
+    (leb_tells chunk.blocks a)

@@ -1,16 +1,13 @@
 -- A file that is sent whole has the image of the file that was checked.
-use Rattle.std.proofs.Common.{◌≡◌, ℕ, zero, suc, ◌+◌, ◌-◌, ◌*◌, ◌<◌, ◌≤◌, Bool, true, false, List, [], ◌∷◌, ◌++◌, length, drop, map, replicate, Option, Some, None, Result, Ok, Err, refl, sym, ap, ◌∙◌, subst, arith, ⊎_elim}
-use Rattle.std.specs.Prelude.{◌&&◌, ◌^◌, ◌/◌, ◌==◌, nat_lt, nat_eq, if◌then◌else◌}
+use Rattle.std.proofs.Common.{◌≡◌, ℕ, zero, suc, ◌-◌, ◌<◌, Bool, true, false, List, [], ◌∷◌, ◌++◌, length, drop, map, replicate, Some, Ok, refl, sym, ap, ◌∙◌, subst, arith, ⊎_elim}
+use Rattle.std.specs.Prelude.{◌&&◌, ◌^◌, nat_lt, nat_eq, if◌then◌else◌}
 use Rattle.std.proofs.lemmas.Bool.Decides.{nat_tests, eqb_tells, leb_tells}
 use Rattle.std.proofs.lemmas.List.{append-nil}
 use Rattle.dev_model.specs.Options.{◌>>=◌, needs}
 use Rattle.dev_model.specs.Images.{image, is_sparse, round_up}
 use Rattle.dev_model.specs.declared.cells.Cell.{Cell}
 use Rattle.dev_model.specs.declared.cells.Cell.TheVariants.{Byte}
-use Rattle.sparse_image.specs.declared.errors.SparseError.{SparseError}
 use Rattle.sparse_image.specs.declared.errors.SparseKind.TheVariants.{TooLong, Empty}
-use Rattle.sparse_image.specs.declared.chunk.Chunk.{Chunk}
-use Rattle.sparse_image.specs.declared.walk.Header.{Header}
 use Rattle.sparse_image.specs.Walks.{Kept, checked, sparse_checked, raw_checked, raw_kept, kept_cells, header_of, walked, source_of, flaw, ◌then_on◌}
 use Rattle.sparse_image.specs.Laws.{WholeImage}
 use Rattle.sparse_image.proofs.WalkLemmas.{walk-agrees, image-raw, padded-length, raw-cells}
