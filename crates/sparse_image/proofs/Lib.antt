@@ -1,0 +1,13 @@
+pub mod WalkLemmas
+pub mod NumberLemmas
+pub mod WalkSteps
+pub mod RunLemmas
+pub mod ReadLemmas
+pub mod CheckLemmas
+pub mod SpellLemmas
+pub mod CutLemmas
+pub mod KeptLemmas
+pub mod PutLemmas
+pub mod PieceLemmas
+pub mod ReachLemmas
+pub mod WholeLemmas

@@ -1,0 +1,28 @@
+//! Android sparse and raw images (sparse_format.h, version 1.0): checking them, writing them as runs,
+//! and splitting them into pieces that a device with a small download buffer takes.
+#![tactic(auto)]
+
+ghost use Rattle.sparse_image.specs.Laws.{WalkAgrees, PieceImage, PieceLength, PiecesPut, RunsPut, WholeImage};
+
+pub mod chunk;
+pub mod errors;
+pub mod index;
+pub mod out;
+mod reads;
+pub mod runs;
+pub mod source;
+mod walk;
+pub mod writes;
+
+/// The laws of the definitions.
+pub fn laws()
+    ensures walk_agrees { WalkAgrees }
+    ensures piece_image { PieceImage }
+    ensures piece_length { PieceLength }
+    ensures pieces_put { PiecesPut }
+    ensures runs_put { RunsPut }
+    ensures whole_image { WholeImage }
+{}
+
+#[cfg(test)]
+mod tests;
