@@ -51,8 +51,8 @@ pub trait Port {
     /// The last target, where the port tells it.
     ghost last: { Self → Option Place };
 
-    /// What each target stands for, where the port tells it.
-    ghost stands: { Self → Option (Place → Stand) };
+    /// What a target stands for, where the port tells it of that target.
+    ghost stands: { Self → Place → Option Stand };
 
     /// The bytes received in the last connection, where the port tells them.
     ghost heard: { Self → Option (List ℕ) };
@@ -71,7 +71,7 @@ pub trait Port {
         ensures aimed { OnOk result (IsTrue (aimed self.new)) }
         ensures astray { OnErr result (IsFalse (aimed self.new)) }
         ensures down { IsFalse (up self.new) }
-        ensures turned { IsLast (stands self.new) (last self.new) (place_of target.now) }
+        ensures turned { OnOk result (IsLast (stands self.new) (last self.new) (place_of target.now)) }
         ensures aims { OnOk result (Aims (stands self.old) (place_of target.now) (peer self.new)) }
         ensures untold { OnErr result (peer self.new ≡ None) }
         ensures others { OnOk result (KeepsOthers (last self.new) (stands self.old) (stands self.new)) }

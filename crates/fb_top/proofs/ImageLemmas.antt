@@ -22,7 +22,7 @@ is_sparse-padded (a ∷ b ∷ []) (suc n) e = ap (λ t. nat_eq 0x3a a && t) (and
 is_sparse-padded (a ∷ b ∷ c ∷ []) zero e = e
 is_sparse-padded (a ∷ b ∷ c ∷ []) (suc n) e =
     ap (λ t. nat_eq 0x3a a && (nat_eq 0xff b && t)) (and-false (nat_eq 0x26 c))
-        ∙ (ap (λ t. nat_eq 0x3a a && t) (and-false (nat_eq 0xff b)) ∙ and-false (nat_eq 0x3a a))
+    ∙ (ap (λ t. nat_eq 0x3a a && t) (and-false (nat_eq 0xff b)) ∙ and-false (nat_eq 0x3a a))
 is_sparse-padded (a ∷ b ∷ c ∷ d ∷ file) n e = e
 
 -- a file that isn't empty and not sparse is raw
@@ -45,6 +45,6 @@ image-raw bytes h =
     let some : nat_lt 0 (length bytes) ≡ true = lt-ltb _ _ h.some in
     let short : nat_lt (length bytes) (2 ^ 44) ≡ true = lt-ltb _ _ (omega (arith, h.most)) in
     image-of-raw bytes some h.raw
-        ∙ (raw_cells-padded bytes (length bytes) (round_up-whole (length bytes) h.whole) short
-        ∙ ap (λ n. Some (map Byte (bytes ++ replicate n 0))) (let e : length bytes - length bytes ≡ 0 = omega arith in e)
-        ∙ ap (λ t. Some (map Byte t)) (append-nil bytes))
+    ∙ (raw_cells-padded bytes (length bytes) (round_up-whole (length bytes) h.whole) short
+    ∙ ap (λ n. Some (map Byte (bytes ++ replicate n 0))) (let e : length bytes - length bytes ≡ 0 = omega arith in e)
+    ∙ ap (λ t. Some (map Byte t)) (append-nil bytes))

@@ -7,3 +7,12 @@ pub mod FlashLemmas
 pub mod SizeLemmas
 pub mod RunLemmas
 pub mod HostLemmas
+pub mod PlainLists
+pub mod PlainSays
+pub mod PlainFlash
+pub mod PlainPuts
+pub mod PlainRooms
+pub mod PlainCuts
+pub mod PlainTakes
+pub mod PlainLayouts
+pub mod PlainFiles

@@ -146,12 +146,12 @@ pub says-image : (files : Option Files) (name file bytes image : List ℕ) → f
 says-image None name file bytes image n e h p = tt
 says-image (Some f) name file bytes image n e h p =
     ap raw_image (ap f (sym n)) ∙ (ap raw_image (sym e) ∙ (ap (λ x. image_or x bytes) (sym h)
-        ∙ (ap (λ x. Ok (unwrap_or x [])) (image-plain bytes (no-flaw bytes h)) ∙ ap (λ x. Ok (map Byte x)) (sym p))))
+    ∙ (ap (λ x. Ok (unwrap_or x [])) (image-plain bytes (no-flaw bytes h)) ∙ ap (λ x. Ok (map Byte x)) (sym p))))
 
 length-padded : (bytes : List ℕ) → length (padded bytes) ≡ length bytes + (round_up (length bytes) - length bytes)
 length-padded bytes =
     length-append bytes (replicate (round_up (length bytes) - length bytes) 0)
-        ∙ ap (λ n. length bytes + n) (length-replicate {A = ℕ} (round_up (length bytes) - length bytes) 0)
+    ∙ ap (λ n. length bytes + n) (length-replicate {A = ℕ} (round_up (length bytes) - length bytes) 0)
 
 -- a number rounded up is whole blocks
 round_up-rest : (n : ℕ) → round_up n % 4096 ≡ 0

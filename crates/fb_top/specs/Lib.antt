@@ -7,3 +7,12 @@ pub mod Flashing
 pub mod Runs
 pub mod SizeText
 pub mod Installs
+pub mod PlainLayout
+pub mod PlainState
+pub mod PlainDevices
+pub mod PlainStages
+pub mod PlainWires
+pub mod PlainTurns
+pub mod PlainPeers
+pub mod PlainStand
+pub mod PlainDisks

@@ -26,5 +26,8 @@ pub fn read_host_words(words: &[String]) -> Option<FlashAll<'_>>
         return None;
     }
     let image = image_file_of(target.as_str())?;
-    Some(FlashAll { image, dir: dir.as_str() })
+    Some(FlashAll {
+        image,
+        dir: dir.as_str(),
+    })
 }

@@ -132,6 +132,7 @@ fn read_product_file<D: ProductDir>(
 }
 
 const REQUIREMENTS: &[u8; 16] = b"android-info.txt";
+
 const TASKS: &[u8; 17] = b"fastboot-info.txt";
 
 fn requirements_file() -> Word

@@ -1,0 +1,12 @@
+use Rattle.fb_frame.specs.Causes.{Rose}
+use Rattle.fb_top.specs.PlainPeers.{state_of}
+use Rattle.fb_top.proofs.PlainFiles.{keeps_same, left_halted}
+use Rattle.fb_top.proofs.plain_disk.send_to.Goals as goal
+
+pub returns-in_default-clause-left : goal.returns-in_default-clause-left
+returns-in_default-clause-left g c =
+    left_halted (Rose (g.K.Disk.faults c.args.disk.now) (g.K.Disk.faults c.store.new.disk)) (state_of c.args.peer.now) c.args.bytes.now c.take-taken.result.count _
+    c.in_default.ensures.cause.failed c.take-taken.ensures.within (c.take-taken.ensures.halts c.if-taken.true)
+
+pub returns-else-taken-clause-others : goal.returns-else-taken-clause-others
+returns-else-taken-clause-others g c = keeps_same (g.K.Disk.files c.args.disk.now) (g.K.Disk.open_path c.args.disk.now)

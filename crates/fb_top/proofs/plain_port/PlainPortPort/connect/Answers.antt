@@ -1,0 +1,25 @@
+use Rattle.std.proofs.Common.{◌≡◌, refl, sym, ap, ◌∙◌, subst, Option, Some}
+use Rattle.wire_model.specs.Told.{HungUp}
+use Rattle.fb_top.specs.declared.plain_device.PlainDevice.{PlainDevice}
+use Rattle.fb_top.specs.declared.plain_peer.PlainPeer.{PlainPeer}
+use Rattle.fb_top.specs.PlainDevices.{dev_of}
+use Rattle.fb_top.specs.PlainDisks.{is_open_for}
+use Rattle.fb_top.specs.PlainPeers.{peer_of, told_by, state_of}
+use Rattle.fb_top.proofs.PlainFiles.{open_known, open_so, hung_if}
+use Rattle.fb_top.proofs.plain_port.PlainPortPort.connect.Goals as goal
+
+pub invariant_of-self : goal.invariant_of-self
+invariant_of-self g c =
+    let size = g.K.Disk.open_length c.args.self.now.disk in
+    let p = c.in-Some.peer in
+    record {
+      stored = open_so size c.connect.new.self
+          (open_known size p (sym (ap (is_open_for size) c.in-Some.is) ∙ c.args.self.now.stored) ∙ ap (λ (d : PlainDevice). Some d.image.len) (sym c.connect.ensures.device));
+    }
+
+pub returns-in_default-connect-clause-left : goal.returns-in_default-connect-clause-left
+returns-in_default-connect-clause-left g c =
+    let p = c.in-Some.peer in
+    let n = c.connect.new.self in
+    subst (λ (o : Option PlainPeer). HungUp (peer_of o) (Some (told_by n))) (sym c.in-Some.is)
+    (hung_if p.up n.up (state_of p) (state_of n) (dev_of p.device) (dev_of n.device) c.in_default-connect.ensures.down (ap dev_of c.connect.ensures.device) refl)

@@ -1,0 +1,39 @@
+use Rattle.std.proofs.Common.{◌≡◌, take, refl, sym, ap, ◌∙◌, subst, Option, Some}
+use Rattle.std.specs.Prelude.{option_map, is_some}
+use Rattle.wire_model.specs.Places.{ImageAt}
+use Rattle.wire_model.specs.Told.{Sent}
+use Rattle.fb_top.specs.declared.plain_peer.PlainPeer.{PlainPeer}
+use Rattle.fb_top.specs.PlainDevices.{dev_of}
+use Rattle.fb_top.specs.PlainDisks.{is_open_for}
+use Rattle.fb_top.specs.PlainPeers.{peer_of, told_by, state_of, is_up}
+use Rattle.fb_top.proofs.PlainFiles.{open_known, sent_if, stands_kept}
+use Rattle.fb_top.proofs.plain_port.PlainPortPort.send.Goals as goal
+
+pub send_to-requires-clause-stored : goal.send_to-requires-clause-stored
+send_to-requires-clause-stored g c =
+    let size = g.K.Disk.open_length c.args.self.now.disk in
+    open_known size c.in-Some.peer (sym (ap (is_open_for size) c.in-Some.is) ∙ c.args.self.now.stored)
+
+pub returns-in_err-count-clause-kept : goal.returns-in_err-count-clause-kept
+returns-in_err-count-clause-kept g c = record {
+  aimed_still = sym (ap is_some c.in-Some.is);
+  last_same = ap (option_map ImageAt) c.send_to.ensures.path;
+  others = stands_kept (g.K.Disk.files c.args.self.now.disk) (g.K.Disk.files c.send_to.new.disk) (g.K.Disk.open_path c.args.self.now.disk) c.send_to.ensures.others;
+}
+
+pub returns-clause-sent : goal.returns-clause-sent
+returns-clause-sent g c =
+    let k = g.K.Disk.faults c.args.self.now.disk in
+    let l = g.K.Disk.faults c.send_to.new.disk in
+    let p = c.in-Some.peer in
+    let n = c.send_to.new.peer in
+    let bytes = take c.in_ok-count.count c.args.bytes.now in
+    subst (λ (o : Option PlainPeer). Sent k l (peer_of o) (Some (told_by n)) bytes) (sym c.in-Some.is)
+    (sent_if k l p.up n.up (state_of p) (state_of n) (dev_of p.device) (dev_of n.device) bytes (sym (ap is_up c.in-Some.is) ∙ c.requires.up) c.in_ok-count.ensures.up c.in_ok-count.ensures.sent)
+
+pub returns-clause-kept : goal.returns-clause-kept
+returns-clause-kept g c = record {
+  aimed_still = sym (ap is_some c.in-Some.is);
+  last_same = ap (option_map ImageAt) c.send_to.ensures.path;
+  others = stands_kept (g.K.Disk.files c.args.self.now.disk) (g.K.Disk.files c.send_to.new.disk) (g.K.Disk.open_path c.args.self.now.disk) c.send_to.ensures.others;
+}
