@@ -126,7 +126,7 @@ impl Port for ScriptPort {
 
     ghost last = { λ p. None };
 
-    ghost stands = { λ p. None };
+    ghost stands = { λ p place. None };
 
     ghost heard = { λ p. Some (take p.at p.current.items) };
 

@@ -47,7 +47,7 @@ impl<R: Net + Drop> Port for TcpPort<R> {
 
     ghost last = { λ p. None };
 
-    ghost stands = { λ p. None };
+    ghost stands = { λ p place. None };
 
     ghost heard = { λ p. None };
 
