@@ -237,4 +237,5 @@ Valid-told a b name text valid t =
     of-on (λ w. IsValid w.device) (IsTold name text) (λ w. IsValid w.device) (λ w u v x. subst IsValid (sym x.device) v) a b valid t
 
 pub ruleset tell_command = (Idle-room, written-some, Passes-taken, Answered-read, unread-untold, AreShort-valid, Behind-read)
+
 pub ruleset ask_variables = (Tells-text, Tells-none, untold-other, Valid-told)

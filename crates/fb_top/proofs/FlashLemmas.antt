@@ -89,19 +89,20 @@ Answers-loaded spare got (Some (Joined w)) (Some (Joined v)) l = loaded-answerin
 heard-okay : (spare : ℕ) (got answer : List ℕ) → length answer ≤ 256 → (w v u : Wire) → IsLoaded spare got w v → v ≡ record u { out = frame answer ++ u.out } → (answer ≡ codes "OKAY") × IsDownloaded spare got w u
 heard-okay spare got answer short w v u l h =
     let o : frame answer ++ u.out ≡ frame (codes "OKAY") ++ [] = sym (ap (λ (x : Wire). x.out) h) ∙ (l.out ∙ sym (append-nil (frame (codes "OKAY")))) in
-    let both = frame-front answer (codes "OKAY") u.out [] (omega (arith, short)) (omega arith) o in
-    (both.0,
-    record {
-      device = sym (ap (λ (x : Wire). x.device) h) ∙ l.device;
-      loaded = sym (ap (λ (x : Wire). x.loaded) h) ∙ l.loaded;
-      idle = record {
-        running = sym (ap (λ (x : Wire). x.closed) h) ∙ l.running;
-        quiet = both.1;
-        commanding = sym (ap (λ (x : Wire). x.phase) h) ∙ l.commanding;
-        rest = sym (ap (λ (x : Wire). x.rest) h) ∙ l.rest;
-        bounded = (let e : v.taken ≡ u.taken = ap (λ (x : Wire). x.taken) h in omega (arith, l.bounded, e));
-      };
-    })
+    let both = frame-front answer (codes "OKAY") u.out [] (omega (arith, short)) (omega arith) o in (
+      both.0,
+      record {
+        device = sym (ap (λ (x : Wire). x.device) h) ∙ l.device;
+        loaded = sym (ap (λ (x : Wire). x.loaded) h) ∙ l.loaded;
+        idle = record {
+          running = sym (ap (λ (x : Wire). x.closed) h) ∙ l.running;
+          quiet = both.1;
+          commanding = sym (ap (λ (x : Wire). x.phase) h) ∙ l.commanding;
+          rest = sym (ap (λ (x : Wire). x.rest) h) ∙ l.rest;
+          bounded = (let e : v.taken ≡ u.taken = ap (λ (x : Wire). x.taken) h in omega (arith, l.bounded, e));
+        };
+      },
+    )
 
 pub Downloaded-heard : (spare : ℕ) (got answer : List ℕ) (a b c d : Option Peer) → length answer ≤ 256 → Same a b → LoadedBy spare got b c → HeardReply c d answer → Downloaded spare got a d
 unfolding HeardReply

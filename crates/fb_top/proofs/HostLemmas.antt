@@ -8,7 +8,7 @@ use Rattle.dev_model.specs.declared.cells.Cell.TheVariants.{Byte}
 use Rattle.dev_model.specs.declared.device.Dev.{Dev}
 use Rattle.flash_plan.specs.Files.{Files, IsThere}
 use Rattle.wire_model.specs.Peers.{Peer, Apart, Joined, device_of}
-use Rattle.wire_model.specs.Places.{Place, ImageAt, Stand, Device, Bad, Nothing, Aims, IsNothing}
+use Rattle.wire_model.specs.Places.{Place, ImageAt, Stand, Stands, Device, Bad, Nothing, AimsBy, Aims, IsNothing}
 use Rattle.wire_model.specs.Told.{HungUp}
 use Rattle.fb_top.specs.declared.host.HostError.{HostError}
 use Rattle.fb_top.specs.declared.host.HostError.TheVariants as host
@@ -20,9 +20,9 @@ use Rattle.fb_top.specs.declared.run.RunError.{RunError}
 use Rattle.fb_top.specs.declared.run.RunError.TheVariants as stop
 use Rattle.fb_top.specs.Asking.{IsCut}
 use Rattle.fb_top.specs.HostWords.{FlashAllText}
-use Rattle.fb_top.specs.Products.{IsProduct, StopsProduct, product_of}
+use Rattle.fb_top.specs.Products.{ProductValue, Fault, IsProduct, StopsProduct, product_of}
 use Rattle.fb_top.specs.Runs.{IsAimed, Installed, WhyRun, installed, product_value}
-use Rattle.fb_top.specs.Installs.{installed_on, IsDevice, Succeeds, IsElsewhere, IsAbsent, WhyHost, status_of, OfProduct, InstallsOn}
+use Rattle.fb_top.specs.Installs.{installed_on, IsDevice, InstallsBy, Succeeds, IsElsewhere, IsAbsent, WhyHost, status_of, OfProduct, InstallsOn}
 
 -- a directory that isn't there is another than the words'
 pub elsewhere : (words : FlashAllText) (path : Option (List ℕ)) → IsThere path words.dir false → IsElsewhere (Some words) path
@@ -34,7 +34,6 @@ pub of-product : (files : Option Files) (product : Product) → IsProduct files 
 of-product None product h = tt
 of-product (Some f) product h = h
 
-
 later-rose : (before mid now : ℕ) → before ≤ mid → Rose mid now → Rose before now
 later-rose before mid now i r = omega (arith, r)
 
@@ -45,28 +44,34 @@ why-inspected files Elsewhere Cut Unput before mid now i (flawed.Directory file)
 why-inspected files Elsewhere Cut Unput before mid now i (flawed.Bad file flaw) w = tt
 
 -- a port that is aimed
-pub aimed : (stands : Option (Place → Stand)) (place : Place) (a : Option Peer) → Aims stands place a → IsAimed a
-aimed None place None h = tt
-aimed None place (Some a) h = absurd h
-aimed (Some f) place None h = absurd h
-aimed (Some f) place (Some (Joined w)) h = absurd h
-aimed (Some f) place (Some (Apart dev)) h = (h.0, h.1)
+aimed-by : (stand : Option Stand) (a : Option Peer) → AimsBy stand a → IsAimed a
+aimed-by None None h = tt
+aimed-by None (Some (Joined w)) h = absurd h
+aimed-by None (Some (Apart dev)) h = (h.0, h.1)
+aimed-by (Some s) None h = absurd h
+aimed-by (Some s) (Some (Joined w)) h = absurd h
+aimed-by (Some s) (Some (Apart dev)) h = (h.0, h.1)
+
+pub aimed : (stands : Stands) (place : Place) (a : Option Peer) → Aims stands place a → IsAimed a
+aimed stands place a h = aimed-by (stands place) a h
 
 -- the installation succeeded on what the target stands for
-pub installs-on : (stands : Option (Place → Stand)) (place : Place) (product : Product) (a b : Option Peer) → Aims stands place a → Installed (product_value product) a b → InstallsOn product stands place b
-installs-on None place product a b m i = tt
-installs-on (Some f) place product None b m i = absurd m
-installs-on (Some f) place product (Some (Joined w)) b m i = absurd m
-installs-on (Some f) place product (Some (Apart dev)) None m i = absurd i
-installs-on (Some f) place product (Some (Apart dev)) (Some b) m i =
-    let on : installed_on (Ok (product_value product)) (f place) ≡ Some (device_of b) = ap (installed_on (Ok (product_value product))) m.2 ∙ i in
+installs-by : (stand : Option Stand) (product : Product) (a b : Option Peer) → AimsBy stand a → Installed (product_value product) a b → InstallsBy (Ok (product_value product)) stand b
+installs-by None product a b m i = tt
+installs-by (Some s) product None b m i = absurd m
+installs-by (Some s) product (Some (Joined w)) b m i = absurd m
+installs-by (Some s) product (Some (Apart dev)) None m i = absurd i
+installs-by (Some s) product (Some (Apart dev)) (Some b) m i =
+    let on : installed_on (Ok (product_value product)) s ≡ Some (device_of b) = ap (installed_on (Ok (product_value product))) m.2 ∙ i in
     subst (λ o. IsDevice o (Some b)) (sym on) refl
 
+pub installs-on : (stands : Stands) (place : Place) (product : Product) (a b : Option Peer) → Aims stands place a → Installed (product_value product) a b → InstallsOn product stands place b
+installs-on stands place product a b m i = installs-by (stands place) product a b m i
+
 -- and so of the told product
-pub succeeds : (words : FlashAllText) (files : Option Files) (stands : Option (Place → Stand)) (product : Product) (b : Option Peer) → OfProduct files product → InstallsOn product stands (ImageAt words.image) b → Succeeds words files stands b
+pub succeeds : (words : FlashAllText) (files : Option Files) (stands : Stands) (product : Product) (b : Option Peer) → OfProduct files product → InstallsOn product stands (ImageAt words.image) b → Succeeds words files stands b
 succeeds words None stands product b p i = tt
-succeeds words (Some files) None product b p i = tt
-succeeds words (Some files) (Some f) product b p i = subst (λ r. IsDevice (installed_on r (f (ImageAt words.image))) b) (sym p) i
+succeeds words (Some files) stands product b p i = subst (λ r. InstallsBy r (stands (ImageAt words.image)) b) (sym p) i
 
 -- why it stops
 cut-behind : (f g h k l m : ℕ) (Absent : Type 0) → f ≤ g → k ≡ l → IsCut g h l m → IsCut f h k m ⊎ Absent
@@ -114,17 +119,20 @@ why-flashed Dir Cut Unput (host.Run (stop.Unknown kept)) w = tt
 why-flashed Dir Cut Unput (host.Run (stop.Plan line kind)) w = tt
 
 -- hanging up leaves the device
-pub succeeds-hung : (words : FlashAllText) (files : Option Files) (stands : Option (Place → Stand)) (b c : Option Peer) → HungUp b c → Succeeds words files stands b → Succeeds words files stands c
+pub succeeds-hung : (words : FlashAllText) (files : Option Files) (stands : Stands) (b c : Option Peer) → HungUp b c → Succeeds words files stands b → Succeeds words files stands c
 succeeds-hung words None stands b c h s = tt
-succeeds-hung words (Some files) None b c h s = tt
-succeeds-hung words (Some files) (Some f) b c h s = pick (installed_on (product_of files) (f (ImageAt words.image))) b c h s
+succeeds-hung words (Some files) stands b c h s = hung (product_of files) (stands (ImageAt words.image)) b c h s
   where
-    pick : (o : Option Dev) (b c : Option Peer) → HungUp b c → IsDevice o b → IsDevice o c
-    pick None b c h s = s
-    pick (Some dev) None c h s = absurd s
-    pick (Some dev) (Some a) None h s = absurd h
-    pick (Some dev) (Some a) (Some (Joined w)) h s = absurd h
-    pick (Some dev) (Some a) (Some (Apart t)) h s = h ∙ s
+    same : (o : Option Dev) (b c : Option Peer) → HungUp b c → IsDevice o b → IsDevice o c
+    same None b c h s = s
+    same (Some dev) None c h s = absurd s
+    same (Some dev) (Some a) None h s = absurd h
+    same (Some dev) (Some a) (Some (Joined w)) h s = absurd h
+    same (Some dev) (Some a) (Some (Apart t)) h s = h ∙ s
+
+    hung : (product : Result ProductValue Fault) (stand : Option Stand) (b c : Option Peer) → HungUp b c → InstallsBy product stand b → InstallsBy product stand c
+    hung product None b c h s = tt
+    hung product (Some stand) b c h s = same (installed_on product stand) b c h s
 
 -- the causes of a status
 pub status-directory : (Dir Cut Unput : Type 0) (e : HostError) → WhyHost Dir Cut Unput e → status_of e ≡ 3 → Dir
@@ -188,7 +196,11 @@ status-some (host.Run (stop.Unknown kept)) = omega arith
 status-some (host.Run (stop.Plan line kind)) = omega arith
 
 pub ruleset opens = (elsewhere, of-product, why-inspected)
+
 pub ruleset installs = (aimed, installs-on, why-stopped)
+
 pub ruleset flashes = (succeeds, why-opened, why-flashed)
+
 pub ruleset ends = (succeeds-hung, status-some)
+
 pub ruleset mains = (succeeds-hung)

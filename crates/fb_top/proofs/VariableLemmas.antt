@@ -3,6 +3,7 @@ use Rattle.std.proofs.Common.{◌≡◌, ℕ, zero, suc, ◌+◌, ◌<◌, ◌�
 use Rattle.std.specs.Prelude.{IsTrue, option_and_then, nat_le, codes, bytes_eq, flat_map, decimal}
 use Rattle.std.specs.List.{list_all, list_any}
 use Rattle.std.specs.Option.{option_or}
+use Rattle.std.specs.Map.{lookup}
 use Rattle.std.proofs.lemmas.Slice.Eq.{bytes_eq-Decides}
 use Rattle.fb_frame.specs.declared.slot.Slot.TheVariants.{A, B}
 use Rattle.fb_frame.specs.NameText.{is_name_byte, is_word}
@@ -13,10 +14,13 @@ use Rattle.dev_model.specs.declared.device.Physical.{Physical}
 use Rattle.dev_model.specs.declared.device.Logical.{Logical}
 use Rattle.dev_model.specs.declared.device.Variable.{Variable}
 use Rattle.dev_model.specs.Partitions.{has_slots, is_physical, is_logical, is_userspace}
-use Rattle.dev_model.specs.Variables.{Row, value, text_of, slotted_name, has_slot, plain_rows, device_rows, slot_rows, partition_rows, super_row, yes_or_no, with_slots_only}
+use Rattle.dev_model.specs.Variables.{Row, value, slotted_name, has_slot, plain_rows, device_rows, slot_rows, partition_rows, super_row, yes_or_no, with_slots_only}
 use Rattle.fb_frame.specs.Slots.{letter}
 use Rattle.fb_top.specs.Questions.{kind_question}
 use Rattle.dev_model.specs.Validity.{IsValid, is_variable, is_value, own_names}
+
+abbrev text_of : List ℕ → List Row → Option (List ℕ)
+text_of name rows = lookup (λ n. bytes_eq n name) rows
 
 option_or-none : (o : Option (List ℕ)) → option_or o None ≡ o
 option_or-none None = refl
@@ -70,9 +74,9 @@ text-rows : (name : List ℕ) (d v s p l : List Row) →
     text_of name (d ++ v ++ s ++ p ++ l) ≡ option_or (option_or (option_or (option_or (text_of name d) (text_of name v)) (text_of name s)) (text_of name p)) (text_of name l)
 text-rows name d v s p l =
     text-append name (d ++ v ++ s ++ p) l
-        ∙ ap (λ o. option_or o (text_of name l)) (text-append name (d ++ v ++ s) p
-        ∙ ap (λ o. option_or o (text_of name p)) (text-append name (d ++ v) s
-        ∙ ap (λ o. option_or o (text_of name s)) (text-append name d v)))
+    ∙ ap (λ o. option_or o (text_of name l)) (text-append name (d ++ v ++ s) p
+    ∙ ap (λ o. option_or o (text_of name p)) (text-append name (d ++ v) s
+    ∙ ap (λ o. option_or o (text_of name s)) (text-append name d v)))
 
 -- the rows of variables of the layout, of the slots, and of partitions
 var-rows : Dev → List Row
@@ -93,21 +97,21 @@ by-lists : (dev : Dev) (name : List ℕ) → slotted_name name ≡ None →
 unfolding value own-rows var-rows flag-rows physical-rows logical-rows
 by-lists dev name e =
     ap (λ o. option_or (text_of name (plain_rows dev)) (option_and_then (has_slot dev) o)) e
-        ∙ (option_or-none (text_of name (plain_rows dev))
-        ∙ text-rows name (own-rows (has_slots dev) dev) (var-rows dev) (flag-rows dev) (physical-rows dev.physical) (logical-rows dev.logical))
+    ∙ (option_or-none (text_of name (plain_rows dev))
+    ∙ text-rows name (own-rows (has_slots dev) dev) (var-rows dev) (flag-rows dev) (physical-rows dev.physical) (logical-rows dev.logical))
 
 -- whether the device has slots
 pub slot-count : (dev : Dev) → value dev (codes "slot-count") ≡ Some (if has_slots dev then codes "2" else codes "0")
 slot-count dev =
     let name : List ℕ = codes "slot-count" in
     by-lists dev (codes "slot-count") refl
-        ∙ ap (λ o. option_or (option_or (option_or (option_or o (text_of (codes "slot-count") (var-rows dev))) (text_of (codes "slot-count") (flag-rows dev))) (text_of (codes "slot-count") (physical-rows dev.physical))) (text_of (codes "slot-count") (logical-rows dev.logical))) (own-slots (has_slots dev) dev)
+    ∙ ap (λ o. option_or (option_or (option_or (option_or o (text_of (codes "slot-count") (var-rows dev))) (text_of (codes "slot-count") (flag-rows dev))) (text_of (codes "slot-count") (physical-rows dev.physical))) (text_of (codes "slot-count") (logical-rows dev.logical))) (own-slots (has_slots dev) dev)
 
 -- how much it takes at once
 pub download-size : (dev : Dev) → value dev (codes "max-download-size") ≡ Some (size_text dev.max)
 download-size dev =
     by-lists dev (codes "max-download-size") refl
-        ∙ ap (λ o. option_or (option_or (option_or (option_or o (text_of (codes "max-download-size") (var-rows dev))) (text_of (codes "max-download-size") (flag-rows dev))) (text_of (codes "max-download-size") (physical-rows dev.physical))) (text_of (codes "max-download-size") (logical-rows dev.logical))) (own-size (has_slots dev) dev)
+    ∙ ap (λ o. option_or (option_or (option_or (option_or o (text_of (codes "max-download-size") (var-rows dev))) (text_of (codes "max-download-size") (flag-rows dev))) (text_of (codes "max-download-size") (physical-rows dev.physical))) (text_of (codes "max-download-size") (logical-rows dev.logical))) (own-size (has_slots dev) dev)
 
 own-kind : (slotted : Bool) (dev : Dev) (o : Option (List ℕ)) (name : List ℕ) → dev.super_name ≡ o → text_of (kind_question name) (own-rows slotted dev) ≡ None
 unfolding own-rows
@@ -165,4 +169,4 @@ unfolding flag-rows var-rows
 partition-kind dev name valid =
     let vars = (parts (nat_le (length dev.vars) 64) (list_all is_variable dev.vars) valid.variables).1 in
     by-lists dev (kind_question name) refl
-        ∙ rw (own-kind (has_slots dev) dev dev.super_name name refl, var-kind dev.vars name vars, flag-kind (has_slots dev) dev name, physical-kind dev.physical name, logical-kind dev.logical name) refl
+    ∙ rw (own-kind (has_slots dev) dev dev.super_name name refl, var-kind dev.vars name vars, flag-kind (has_slots dev) dev name, physical-kind dev.physical name, logical-kind dev.logical name) refl

@@ -5,7 +5,7 @@ use Rattle.fb_frame.specs.Causes.{Rose}
 use Rattle.dev_model.specs.declared.device.Dev.{Dev}
 use Rattle.flash_plan.specs.Files.{Files}
 use Rattle.wire_model.specs.Peers.{Peer, device_of}
-use Rattle.wire_model.specs.Places.{Place, ImageAt, Stand, Device, Bad, Nothing, IsNothing}
+use Rattle.wire_model.specs.Places.{Place, ImageAt, Stand, Stands, Device, Bad, Nothing, IsNothing}
 use Rattle.fb_top.specs.declared.host.HostError.{HostError}
 use Rattle.fb_top.specs.declared.host.HostError.TheVariants as host
 use Rattle.fb_top.specs.declared.product.ProductError.{ProductError}
@@ -35,15 +35,19 @@ IsDevice None b = ⊥
 IsDevice (Some dev) None = ⊥
 IsDevice (Some dev) (Some b) = device_of b ≡ dev
 
--- The installation succeeded: where the files and the targets are told, the plan over the device that the
+-- the same on a target, where it is told what it stands for
+abbrev pub InstallsBy : Result ProductValue Fault → Option Stand → Option Peer → Type 0
+InstallsBy product None b = Unit {0}
+InstallsBy product (Some stand) b = IsDevice (installed_on product stand) b
+
+-- The installation succeeded: where the files and the target are told, the plan over the device that the
 -- target stands for is defined, its run is defined, and the told device is that run.
-abbrev pub Succeeds : FlashAllText → Option Files → Option (Place → Stand) → Option Peer → Type 0
+abbrev pub Succeeds : FlashAllText → Option Files → Stands → Option Peer → Type 0
 Succeeds words None stands b = Unit {0}
-Succeeds words (Some files) None b = Unit {0}
-Succeeds words (Some files) (Some stand) b = IsDevice (installed_on (product_of files) (stand (ImageAt words.image))) b
+Succeeds words (Some files) stands b = InstallsBy (product_of files) (stands (ImageAt words.image)) b
 
 -- the same of words that may be refused, which never succeed
-abbrev pub Installs : Option FlashAllText → Option Files → Option (Place → Stand) → Option Peer → Type 0
+abbrev pub Installs : Option FlashAllText → Option Files → Stands → Option Peer → Type 0
 Installs None files stands b = ⊥
 Installs (Some words) files stands b = Succeeds words files stands b
 
@@ -54,7 +58,7 @@ IsElsewhere (Some words) None = ⊥
 IsElsewhere (Some words) (Some path) = path ≢ words.dir
 
 -- the words' target is told to stand for nothing
-abbrev pub IsAbsent : Option FlashAllText → Option (Place → Stand) → Type 0
+abbrev pub IsAbsent : Option FlashAllText → Stands → Type 0
 IsAbsent None stands = ⊥
 IsAbsent (Some words) stands = IsNothing stands (ImageAt words.image)
 
@@ -97,6 +101,5 @@ OfProduct None product = Unit {0}
 OfProduct (Some files) product = product_of files ≡ Ok (product_value product)
 
 -- the product is installed on what the target is told to stand for
-abbrev pub InstallsOn : Product → Option (Place → Stand) → Place → Option Peer → Type 0
-InstallsOn product None place b = Unit {0}
-InstallsOn product (Some stand) place b = IsDevice (installed_on (Ok (product_value product)) (stand place)) b
+abbrev pub InstallsOn : Product → Stands → Place → Option Peer → Type 0
+InstallsOn product stands place b = InstallsBy (Ok (product_value product)) (stands place) b

@@ -18,7 +18,7 @@ use fb_message::reply::{BadReply, Reply, read_reply, write_reply};
 /// Why a command of the host isn't carried out.
 #[derive(Debug, Drop)]
 pub enum AskFail {
-    /// The link is cut.
+    /// The link is cut: a call failed, or the connection ended before the reply.
     Link,
     /// The device refuses with this text.
     Refused(Line),
@@ -62,6 +62,7 @@ pub fn tell<P: Port>(port: &mut P, command: &Command<'_>) -> Result<Reply, AskFa
     let n = match ask(port, packet.bytes(), &mut buf) {
         Ok(n) => n,
         Err(AskError::Link) => return Err(AskFail::Link),
+        Err(AskError::Ended) => return Err(AskFail::Link),
         Err(AskError::BadReply) => return Err(AskFail::Unknown(kept(&buf))),
     };
     match read_reply(&buf[..n]) {

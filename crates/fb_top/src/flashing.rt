@@ -49,6 +49,7 @@ fn download<P: Port>(port: &mut P, image: &[u8]) -> Result<(), AskFail>
     let n = match hear(port, &mut buf) {
         Ok(n) => n,
         Err(AskError::Link) => return Err(AskFail::Link),
+        Err(AskError::Ended) => return Err(AskFail::Link),
         Err(AskError::BadReply) => return Err(AskFail::Unknown(kept(&buf))),
     };
     let okay = is_okay(&buf[..n]);

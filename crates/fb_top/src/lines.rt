@@ -24,7 +24,11 @@ fn add_shown(line: &mut Vec<u8>, text: &[u8]) -> Result<(), AllocError> {
 fn hex_digit(nibble: u8) -> u8
     requires { nibble < 16 }
 {
-    if nibble < 10 { b'0' + nibble } else { b'a' - 10 + nibble }
+    if nibble < 10 {
+        b'0' + nibble
+    } else {
+        b'a' - 10 + nibble
+    }
 }
 
 /// Adds the first kept bytes in lower-case hexadecimal.

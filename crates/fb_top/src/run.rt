@@ -7,7 +7,7 @@ ghost use Rattle.fb_top.specs.Flashing.{Serves};
 ghost use Rattle.fb_top.specs.Products.{IsRawImage};
 ghost use Rattle.fb_top.specs.Runs.{product_value, two_steps, IsAimed, Planned, Installed, WhyRun, run_error, Ran, Stuck, NoPlan, Unplanned, Unrun, IsUnsaid};
 
-use crate::asking::AskFail;
+use crate::asking::{AskFail, kept};
 use crate::flashing::{flash, reboot};
 use crate::plan::PlanKind;
 use crate::product::Product;
@@ -172,7 +172,8 @@ pub fn drive<P: Port, S: Sink>(
     match open(port) {
         Ok(()) => {}
         Err(OpenError::Link) => return Err(RunError::Link),
-        Err(OpenError::BadHandshake) => return Err(RunError::Unknown(Line::read(b"").unwrap())),
+        Err(OpenError::Ended) => return Err(RunError::Link),
+        Err(OpenError::BadHandshake(four)) => return Err(RunError::Unknown(kept(&four))),
     }
     match decide(port, product) {
         Ok(()) => {}

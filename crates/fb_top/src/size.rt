@@ -10,6 +10,7 @@ const MOST_DIGITS: usize = 16;
 
 /// The least and the most that a device takes in one download. A greater number counts as the most.
 const LEAST_DOWNLOAD: u64 = 131_072;
+
 const MOST_DOWNLOAD: u64 = 268_435_456;
 
 /// The number of 1 to 16 hexadecimal digits of either case.

@@ -1,0 +1,176 @@
+use dev_disk::digest::digest;
+use dev_disk::memory::MemoryDisk;
+use fb_frame::memory_sink::MemorySink;
+use fb_top::host::host_main;
+use fb_top::plain_port::PlainPort;
+use flash_plan::memory_dir::{DirFile, MemoryDir};
+use std::alloc::{AllocError, Global};
+use std::test::Fail;
+
+const LAYOUT: &[u8; 87] =
+    b"fbdevice 1\nproduct falcon\nserialno S1\nslots 0\nmax-download 131072\npartition boot 16384\n";
+
+/// A state record of version 1 without slots.
+fn record(alloc: Global, locked: u8) -> Result<Vec<u8>, AllocError> {
+    let mut front = [0; 32];
+    front[..4].copy_from_slice(b"FBST");
+    front[4] = 1;
+    front[8] = locked;
+    let mut block = Vec::from_slice(alloc, &front)?;
+    block.extend_from_slice(&digest(&front))?;
+    block.resize(4096, 0)?;
+    Ok(block)
+}
+
+/// A device image with a partition `boot` of four blocks 0xEE, behind bytes of the image that is flashed.
+fn device(alloc: Global, locked: u8, flashed: &[u8]) -> Result<Vec<u8>, AllocError> {
+    let mut image = Vec::from_slice(alloc, LAYOUT)?;
+    image.resize(4096, 0)?;
+    let state = record(alloc, locked)?;
+    image.extend_from_slice(state.as_slice())?;
+    image.extend_from_slice(state.as_slice())?;
+    image.extend_from_slice(flashed)?;
+    image.resize(28_672, 0xEE)?;
+    Ok(image)
+}
+
+fn file(alloc: Global, name: &str, bytes: &[u8]) -> Result<DirFile, AllocError> {
+    let name = name.to_string(alloc)?;
+    let bytes = Vec::from_slice(alloc, bytes)?;
+    Ok(DirFile { name, bytes })
+}
+
+/// The product of one flash of `boot`, with its image where there is one.
+fn product(alloc: Global, image: Option<&[u8]>) -> Result<Vec<DirFile>, AllocError> {
+    let mut files = Vec::new(alloc);
+    files.push(file(alloc, "android-info.txt", b"")?)?;
+    files.push(file(alloc, "fastboot-info.txt", b"version 1\nflash boot\n")?)?;
+    if let Some(bytes) = image {
+        files.push(file(alloc, "boot.img", bytes)?)?;
+    }
+    Ok(files)
+}
+
+fn words(alloc: Global, texts: &[&str]) -> Result<Vec<String>, AllocError> {
+    let mut words = Vec::new(alloc);
+    for text in texts {
+        words.push(text.to_string(alloc)?)?;
+    }
+    Ok(words)
+}
+
+/// What a run of fbflash leaves: its status, what it printed, and the image file.
+#[derive(Debug, Drop)]
+struct Outcome {
+    status: u8,
+    text: Vec<u8>,
+    file: Vec<u8>,
+}
+
+fn run(
+    alloc: Global,
+    texts: &[&str],
+    image: Option<&[u8]>,
+    locked: u8,
+    room: usize,
+) -> Result<Outcome, Fail> {
+    let words = words(alloc, texts)?;
+    let mut disk = MemoryDisk::new(alloc, Vec::new(alloc))?;
+    disk.add(alloc, "dev.img", device(alloc, locked, b"")?.as_slice())?;
+    let mut dir = MemoryDir::new(alloc, "product", product(alloc, image)?, Vec::new(alloc))?;
+    let mut port = PlainPort::new(disk);
+    let mut out = MemorySink::new(alloc, room)?;
+    let status = host_main(alloc, words.as_slice(), &mut dir, &mut port, &mut out);
+    let disk = port.into_disk();
+    let file = disk.file("dev.img").unwrap_or(b"");
+    Ok(Outcome {
+        status,
+        text: Vec::from_slice(alloc, out.text())?,
+        file: Vec::from_slice(alloc, file)?,
+    })
+}
+
+const FLASHALL: [&str; 4] = ["-s", "image:dev.img", "flashall", "product"];
+
+#[test]
+fn flashes_one_raw_image(rt: HostRuntime) -> Result<(), Fail> {
+    let alloc = rt.alloc();
+    let image = [0x11; 4096];
+    let done = run(alloc, &FLASHALL, Some(&image), 0, 1000)?;
+    assert_eq!(rt; done.status, 0);
+    assert_eq!(rt;
+        done.text.as_slice(),
+        b"flash boot 4096\nreboot system\ndone 2\n".as_slice()
+    );
+    assert_eq!(rt; done.file.as_slice(), device(alloc, 0, &image)?.as_slice());
+    Ok(())
+}
+
+#[test]
+fn flashes_without_room_for_a_line(rt: HostRuntime) -> Result<(), Fail> {
+    let alloc = rt.alloc();
+    let image = [0x11; 4096];
+    let done = run(alloc, &FLASHALL, Some(&image), 0, 0)?;
+    assert_eq!(rt; done.status, 9);
+    assert_eq!(rt; done.text.as_slice(), b"".as_slice());
+    assert_eq!(rt; done.file.as_slice(), device(alloc, 0, &image)?.as_slice());
+    Ok(())
+}
+
+#[test]
+fn refuses_with_the_named_line(rt: HostRuntime) -> Result<(), Fail> {
+    let alloc = rt.alloc();
+    let before = device(alloc, 0, b"")?;
+    let large = [0x11; 20_480];
+    let cases: [(&[&str], Option<&[u8]>, u8, &[u8]); 7] = [
+        (
+            &["-s", "image:dev.img", "update", "x.zip"],
+            None,
+            1,
+            b"error usage\n",
+        ),
+        (&["flashall", "product"], None, 1, b"error usage\n"),
+        (
+            &["-s", "image:dev.img", "flashall", "other"],
+            None,
+            3,
+            b"error directory other\n",
+        ),
+        (&FLASHALL, None, 4, b"error product boot.img Absent\n"),
+        (
+            &FLASHALL,
+            Some(b""),
+            4,
+            b"error product boot.img Empty at 0\n",
+        ),
+        (
+            &["-s", "image:none.img", "flashall", "product"],
+            Some(b"1"),
+            6,
+            b"error link\n",
+        ),
+        (
+            &FLASHALL,
+            Some(&large),
+            7,
+            b"error refused image too large\n",
+        ),
+    ];
+    for (texts, image, status, line) in cases {
+        let done = run(alloc, texts, image, 0, 1000)?;
+        assert_eq!(rt; done.status, status);
+        assert_eq!(rt; done.text.as_slice(), line);
+        assert_eq!(rt; done.file.as_slice(), before.as_slice());
+    }
+    Ok(())
+}
+
+#[test]
+fn leaves_a_locked_device(rt: HostRuntime) -> Result<(), Fail> {
+    let alloc = rt.alloc();
+    let done = run(alloc, &FLASHALL, Some(b"1"), 1, 1000)?;
+    assert_eq!(rt; done.status, 7);
+    assert_eq!(rt; done.text.as_slice(), b"error refused locked\n".as_slice());
+    assert_eq!(rt; done.file.as_slice(), device(alloc, 1, b"")?.as_slice());
+    Ok(())
+}
