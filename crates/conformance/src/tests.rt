@@ -1,5 +1,6 @@
 use dev_disk::digest::digest;
 use dev_disk::memory::MemoryDisk;
+use dev_model::device::Mode;
 use fb_frame::memory_sink::MemorySink;
 use fb_top::host::host_main;
 use fb_top::plain_port::PlainPort;
@@ -59,11 +60,12 @@ fn words(alloc: Global, texts: &[&str]) -> Result<Vec<String>, AllocError> {
     Ok(words)
 }
 
-/// What a run of fbflash leaves: its status, what it printed, and the image file.
+/// What a run of fbflash leaves: its status, what it printed, the device's mode, and the image file.
 #[derive(Debug, Drop)]
 struct Outcome {
     status: u8,
     text: Vec<u8>,
+    mode: Option<Mode>,
     file: Vec<u8>,
 }
 
@@ -81,11 +83,13 @@ fn run(
     let mut port = PlainPort::new(disk);
     let mut out = MemorySink::new(alloc, room)?;
     let status = host_main(alloc, words.as_slice(), &mut dir, &mut port, &mut out);
+    let mode = port.mode();
     let disk = port.into_disk();
     let file = disk.file("dev.img").unwrap_or(b"");
     Ok(Outcome {
         status,
         text: Vec::from_slice(alloc, out.text())?,
+        mode,
         file: Vec::from_slice(alloc, file)?,
     })
 }
@@ -102,6 +106,7 @@ fn flashes_one_raw_image(rt: HostRuntime) -> Result<(), Fail> {
         done.text.as_slice(),
         b"flash boot 4096\nreboot system\ndone 2\n".as_slice()
     );
+    assert!(rt; done.mode == Some(Mode::System));
     assert_eq!(rt; done.file.as_slice(), device(alloc, 0, &image)?.as_slice());
     Ok(())
 }
@@ -113,6 +118,7 @@ fn flashes_without_room_for_a_line(rt: HostRuntime) -> Result<(), Fail> {
     let done = run(alloc, &FLASHALL, Some(&image), 0, 0)?;
     assert_eq!(rt; done.status, 9);
     assert_eq!(rt; done.text.as_slice(), b"".as_slice());
+    assert!(rt; done.mode == Some(Mode::Bootloader));
     assert_eq!(rt; done.file.as_slice(), device(alloc, 0, &image)?.as_slice());
     Ok(())
 }

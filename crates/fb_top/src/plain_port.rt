@@ -1,10 +1,13 @@
 ghost use Rattle.std.specs.Prelude.{◌≡◌, ℕ, true, false, None, Some, option_map, is_some, IsTrue};
 ghost use Rattle.fb_top.specs.PlainDisks.{is_open_for};
+ghost use Rattle.fb_top.specs.PlainPeers.{peer_of};
+ghost use Rattle.wire_model.specs.Peers.{device_of};
 
 use crate::plain_disk::{open_device, send_to};
 use crate::plain_hear::give;
 use crate::plain_peer::PlainPeer;
 use dev_disk::disk::Disk;
+use dev_model::device::Mode;
 use fb_link::port::{AimError, LinkFault, Port, Target};
 use std::alloc::Global;
 
@@ -28,6 +31,16 @@ impl<K: Disk> PlainPort<K> {
         }
     }
 
+    /// The mode of the device that the port is aimed at.
+    pub fn mode(&self) -> Option<Mode>
+        ensures { result ≡ option_map (λ peer. (device_of peer).mode) (peer_of self.now.peer) }
+    {
+        match &self.peer {
+            None => None,
+            Some(peer) => Some(peer.device.mode),
+        }
+    }
+
     /// The disk of the port.
     pub fn into_disk(self) -> K {
         self.disk
@@ -35,7 +48,7 @@ impl<K: Disk> PlainPort<K> {
 }
 
 impl<K: Disk> Port for PlainPort<K> {
-    ghost use Rattle.fb_top.specs.PlainPeers.{peer_of, is_up};
+    ghost use Rattle.fb_top.specs.PlainPeers.{is_up};
     ghost use Rattle.fb_top.specs.PlainStand.{plain_stands};
     ghost use Rattle.fb_top.specs.PlainTurns.{is_answered};
     ghost use Rattle.wire_model.specs.Places.{ImageAt};
