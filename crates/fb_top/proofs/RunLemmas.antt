@@ -1,8 +1,10 @@
 -- A whole installation over a told device is the run of its plan.
-use Rattle.std.proofs.Common.{◌≡◌, ◌⊎◌, inl, inr, not, ℕ, ◌+◌, ◌≤◌, Bool, true, false, ◌&&◌, ◌||◌, if◌then◌else◌, List, [], ◌∷◌, map, Option, Some, None, Result, Ok, Err, refl, sym, ap, ◌∙◌, subst, arith, true≢false}
-use Rattle.std.specs.Prelude.{IsTrue, IsFalse, is_none}
+use Rattle.std.proofs.Common.{◌≡◌, ◌⊎◌, inl, inr, not, ℕ, ◌+◌, ◌≤◌, Bool, true, false, ◌&&◌, ◌||◌, if◌then◌else◌, List, [], ◌∷◌, ◌++◌, map, Option, Some, None, Result, Ok, Err, refl, sym, ap, ◌∙◌, subst, arith, append_assoc, true≢false}
+use Rattle.std.specs.Prelude.{IsTrue, IsFalse}
+use Rattle.std.specs.Option.{option_or}
 use Rattle.std.proofs.lemmas.Option.{none-some}
 use Rattle.fb_frame.specs.Causes.{Rose}
+use Rattle.fb_frame.specs.Sinks.{Grew}
 use Rattle.dev_model.specs.declared.device.Dev.{Dev}
 use Rattle.dev_model.specs.declared.device.Mode.TheVariants.{System}
 use Rattle.dev_model.specs.declared.step.Step.{Step}
@@ -13,7 +15,6 @@ use Rattle.dev_model.specs.Steps.{can, apply, run, is_boot, meets}
 use Rattle.dev_model.specs.Refusals.{refusal_of}
 use Rattle.dev_model.specs.Validity.{IsValid}
 use Rattle.dev_model.proofs.Keeps.{keeps_valid}
-use Rattle.dev_model.proofs.Taken.{takes_unless_refused}
 use Rattle.wire_model.specs.Peers.{Peer, Apart, Joined, device_of, OfLink, OnLink}
 use Rattle.wire_model.specs.Wire.{Wire}
 use Rattle.wire_model.specs.Told.{MayConnect, IsBarred, Opened, IsIdle, Idle, HungUp}
@@ -30,7 +31,8 @@ use Rattle.fb_top.specs.Products.{ProductValue}
 use Rattle.fb_top.specs.Plans.{PlanFault, kind_of, planned, plan_of}
 use Rattle.fb_top.specs.Questions.{Learns, LearnsSlots, LearnsMax, LearnsKind}
 use Rattle.fb_top.specs.Flashing.{Serves, Takes, Refuses, OnDevice, OnTold, put_step, Took, Refused}
-use Rattle.fb_top.specs.Runs.{run_plan, installed, IsAimed, Plans, Planned, Installed, WhyRun, run_error, two_steps, Ran, Sticks, Stuck, SameDevice, NoPlan, Unplanned, Unrun}
+use Rattle.fb_top.specs.Outcomes.{first_refusal}
+use Rattle.fb_top.specs.Runs.{run_plan, installed, IsAimed, Plans, Planned, Installed, WhyRun, run_error, two_steps, Ran, Sticks, Stuck, SameDevice, NoPlan, Unplanned, Unruns, Unrun, IsUnsaid, Quiet}
 use Rattle.fb_top.proofs.FlashLemmas.{Same}
 
 -- what is told of a device, one relation behind another
@@ -149,18 +151,11 @@ pub Ran-both : (p q : Step) (a b c : Option Peer) → Took p a b → Took q b c 
 Ran-both p q a b c x y = on-device-then (Takes p) (Takes q) (λ s u. run (p ∷ q ∷ []) s ≡ Some u) (ran-both p q) a b c x y
 
 -- a device that refuses the first
-refused-so : (step : Step) (text : List ℕ) (s : Dev) → refusal_of step s ≡ Some text → can step s ≡ false
-refused-so step text s e = pick (is_fastboot s.mode) refl
-  where
-    pick : (b : Bool) → is_fastboot s.mode ≡ b → can step s ≡ false
-    pick true h = takes_unless_refused step s h ∙ ap is_none e
-    pick false h = ap (λ t. t && (is_boot step || not s.locked) && meets step s) h
-
-sticks : (p q : Step) (text : List ℕ) (s t : Dev) → Refuses p text s t → Sticks (p ∷ q ∷ []) s t
-sticks p q text s t r = record { stuck = rw (refused-so p text s r.refusal) refl; same = r.same }
+sticks : (p q : Step) (text : List ℕ) (s t : Dev) → Refuses p text s t → Sticks (p ∷ q ∷ []) text s t
+sticks p q text s t r = record { stuck = ap (λ o. option_or o (first_refusal (q ∷ []) (apply p s))) r.refusal; same = r.same }
 
 pub Stuck-first : (p q : Step) (f g : ℕ) (a b : Option Peer) (text : List ℕ) → Refused p f g a b text → Stuck (p ∷ q ∷ []) f g a b text
-Stuck-first p q f g a b text (inl r) = inl (on-device-on (Refuses p text) (Sticks (p ∷ q ∷ [])) (sticks p q text) a b r)
+Stuck-first p q f g a b text (inl r) = inl (on-device-on (Refuses p text) (Sticks (p ∷ q ∷ []) text) (sticks p q text) a b r)
 Stuck-first p q f g a b text (inr r) = inr r
 
 -- a reboot isn't refused
@@ -170,7 +165,7 @@ boot-stuck text s t r = none-some text r.refusal
 pub Stuck-second : (p q : Step) (f g h : ℕ) → f ≤ g → (a b c : Option Peer) (text : List ℕ) → Took p a b → Refused (Boot System) g h b c text → Stuck (p ∷ q ∷ []) f h a c text
 Stuck-second p q f g h i a b c text x (inr r) = inr (rose-within f g h i r)
 Stuck-second p q f g h i a b c text x (inl r) =
-    inl (on-device-then (Takes p) (Refuses (Boot System) text) (Sticks (p ∷ q ∷ [])) (λ s t u y z. absurd (boot-stuck text t u z)) a b c x r)
+    inl (on-device-then (Takes p) (Refuses (Boot System) text) (Sticks (p ∷ q ∷ []) text) (λ s t u y z. absurd (boot-stuck text t u z)) a b c x r)
 
 -- what a step leaves
 took-serves : (name image : List ℕ) (s t : Dev) → Takes (put_step name image) s t → IsTrue (is_fastboot s.mode) → IsTrue (is_fastboot t.mode)
@@ -210,7 +205,43 @@ why-reboot p q Unplans Unput f g h k l m i j a b c x ask.Link w = cut-within f g
 why-reboot p q Unplans Unput f g h k l m i j a b c x (ask.Refused text) w = Stuck-second p q f g h i a b c text x w
 why-reboot p q Unplans Unput f g h k l m i j a b c x (ask.Unknown kept) w = on-device-none (Takes p) a b x w
 
-pub ruleset steps = (Ran-both, Serves-took, Valid-took, why-flash, why-reboot)
+-- what was printed
+pub grew-then : (a b c : Option (List ℕ)) (x y : List ℕ) → Grew a b x → Grew b c y → Grew a c (x ++ y)
+grew-then None None None x y g h = tt
+grew-then None None (Some c) x y g h = h
+grew-then None (Some b) c x y g h = absurd g
+grew-then (Some a) None c x y g h = absurd g
+grew-then (Some a) (Some b) None x y g h = absurd h
+grew-then (Some a) (Some b) (Some c) x y g h = h ∙ ap (λ t. t ++ y) g ∙ append_assoc a x y
+
+pub quiet-same : (text : Option (List ℕ)) (Faulty Untold : Type 0) (e : RunError) → Quiet text text Faulty Untold e
+quiet-same text Faulty Untold Memory = tt
+quiet-same text Faulty Untold Output = tt
+quiet-same text Faulty Untold Link = tt
+quiet-same text Faulty Untold (stop.Refused t) = inl refl
+quiet-same text Faulty Untold (Unknown kept) = tt
+quiet-same text Faulty Untold (Plan line kind) = refl
+
+pub quiet-unsaid : (before now : Option (List ℕ)) (Faulty Untold : Type 0) (f g : ℕ) (e : RunError) → IsUnsaid f g e → Quiet before now Faulty Untold e
+quiet-unsaid before now Faulty Untold f g Memory u = tt
+quiet-unsaid before now Faulty Untold f g Output u = tt
+quiet-unsaid before now Faulty Untold f g Link u = absurd u
+quiet-unsaid before now Faulty Untold f g (stop.Refused t) u = absurd u
+quiet-unsaid before now Faulty Untold f g (Unknown kept) u = absurd u
+quiet-unsaid before now Faulty Untold f g (Plan line kind) u = absurd u
+
+unrefused : (a b c : Option Peer) (p : Step) (text : List ℕ) → Took p a b → OnDevice (Refuses (Boot System) text) b c → a ≡ None
+unrefused a None c p text x r = on-device-none (Takes p) a None x refl
+unrefused a (Some b) None p text x r = absurd r
+unrefused a (Some b) (Some c) p text x r = absurd (boot-stuck text (device_of b) (device_of c) r)
+
+pub quiet-reboot : (before now : Option (List ℕ)) (p : Step) (Cut : Type 0) (f g h : ℕ) → f ≤ g → (a b c : Option Peer) → Took p a b → (e : AskFail) → Why (Refused (Boot System) g h b c) Cut b e → Quiet before now (Rose f h) (a ≡ None) (run_error e)
+quiet-reboot before now p Cut f g h i a b c x ask.Link w = tt
+quiet-reboot before now p Cut f g h i a b c x (ask.Refused text) (inl r) = inr (inr (unrefused a b c p text x r))
+quiet-reboot before now p Cut f g h i a b c x (ask.Refused text) (inr r) = inr (inl (rose-within f g h i r))
+quiet-reboot before now p Cut f g h i a b c x (ask.Unknown kept) w = tt
+
+pub ruleset steps = (Ran-both, Serves-took, Valid-took, why-flash, why-reboot, grew-then, quiet-same, quiet-unsaid, quiet-reboot)
 
 -- a connection that was opened
 pub Opened-parts : (spare : ℕ) (a b : Option Peer) → IsAimed a → Opened spare a b → Idle spare b × ValidPeer b × Serves b × SameDevice a b
@@ -257,16 +288,19 @@ why-decided product Unput f g h k l m i j a b c x (Unknown kept) w = on-device-n
 why-decided product Unput f g h k l m i j a b c x (Plan line kind) w =
     on-device-then (λ s t. t ≡ s) (Plans product (Err (line, kind))) (Plans product (Err (line, kind))) (same-plan product (Err (line, kind))) a b c x w
 
-stuck-product : (product : ProductValue) (s t u : Dev) → Plans product (Ok (two_steps product)) s t → Sticks (two_steps product) t u → (plan_of product s ≡ Ok (two_steps product)) × (run (two_steps product) s ≡ None)
-stuck-product product s t u p q = (p.plan_is, subst (λ x. run (two_steps product) x ≡ None) p.same q.stuck)
+stuck-product : (product : ProductValue) (text : List ℕ) (s t u : Dev) → Plans product (Ok (two_steps product)) s t → Sticks (two_steps product) text t u → Unruns product text s u
+stuck-product product text s t u p q =
+    record { plan_is = p.plan_is; stuck = subst (λ x. first_refusal (two_steps product) x ≡ Some text) p.same q.stuck; same = q.same ∙ p.same }
+
+unruns-same : (product : ProductValue) (text : List ℕ) (s t u : Dev) → t ≡ s → Unruns product text t u → Unruns product text s u
+unruns-same product text s t u e z =
+    record { plan_is = subst (λ q. plan_of product q ≡ Ok (two_steps product)) e z.plan_is; stuck = subst (λ q. first_refusal (two_steps product) q ≡ Some text) e z.stuck; same = z.same ∙ e }
 
 stuck-told : (product : ProductValue) (f g h : ℕ) → f ≤ g → (a b c d : Option Peer) (text : List ℕ) → SameDevice a b → Planned product (Ok (two_steps product)) b c → Stuck (two_steps product) g h c d text → Unrun product f h a d text
 stuck-told product f g h i a b c d text x y (inr r) = inr (rose-within f g h i r)
 stuck-told product f g h i a b c d text x y (inl r) =
-    inl (told-device (λ s t. (plan_of product s ≡ Ok (two_steps product)) × (run (two_steps product) s ≡ None)) a d
-    (on-device-then (λ s t. t ≡ s) (λ s t. (plan_of product s ≡ Ok (two_steps product)) × (run (two_steps product) s ≡ None)) (λ s t. (plan_of product s ≡ Ok (two_steps product)) × (run (two_steps product) s ≡ None))
-    (λ s t u e z. subst (λ q. (plan_of product q ≡ Ok (two_steps product)) × (run (two_steps product) q ≡ None)) e z) a b d x
-    (on-device-then (Plans product (Ok (two_steps product))) (Sticks (two_steps product)) (λ s t. (plan_of product s ≡ Ok (two_steps product)) × (run (two_steps product) s ≡ None)) (stuck-product product) b c d y r)))
+    inl (told-device (Unruns product text) a d (on-device-then (λ s t. t ≡ s) (Unruns product text) (Unruns product text) (unruns-same product text) a b d x
+    (on-device-then (Plans product (Ok (two_steps product))) (Sticks (two_steps product) text) (Unruns product text) (stuck-product product text) b c d y r)))
 
 -- and why the steps do
 pub why-ran : (product : ProductValue) (Unput : Type 0) (f g h k l m : ℕ) → f ≤ g → k ≤ l → (a b c d : Option Peer) → SameDevice a b → Planned product (Ok (two_steps product)) b c → (e : RunError) →
@@ -278,4 +312,17 @@ why-ran product Unput f g h k l m i j a b c d x y (stop.Refused text) w = stuck-
 why-ran product Unput f g h k l m i j a b c d x y (Unknown kept) w = on-device-none (λ s t. t ≡ s) a b x (on-device-none (Plans product (Ok (two_steps product))) b c y w)
 why-ran product Unput f g h k l m i j a b c d x y (Plan line kind) w = absurd w
 
-pub ruleset drives = (not-barred, Installed-ran, why-decided, why-ran)
+pub quiet-later : (before now : Option (List ℕ)) (f g h : ℕ) → f ≤ g → (a c : Option Peer) → (c ≡ None → a ≡ None) → (e : RunError) → Quiet before now (Rose g h) (c ≡ None) e → Quiet before now (Rose f h) (a ≡ None) e
+quiet-later before now f g h i a c n Memory q = tt
+quiet-later before now f g h i a c n Output q = tt
+quiet-later before now f g h i a c n Link q = tt
+quiet-later before now f g h i a c n (stop.Refused t) (inl q) = inl q
+quiet-later before now f g h i a c n (stop.Refused t) (inr (inl q)) = inr (inl (rose-within f g h i q))
+quiet-later before now f g h i a c n (stop.Refused t) (inr (inr q)) = inr (inr (n q))
+quiet-later before now f g h i a c n (Unknown kept) q = tt
+quiet-later before now f g h i a c n (Plan line kind) q = q
+
+pub untold-planned : (product : ProductValue) (plan : Result (List Step) PlanFault) (a b c : Option Peer) → SameDevice a b → Planned product plan b c → c ≡ None → a ≡ None
+untold-planned product plan a b c x y n = on-device-none (λ s t. t ≡ s) a b x (on-device-none (Plans product plan) b c y n)
+
+pub ruleset drives = (not-barred, Installed-ran, why-decided, why-ran, quiet-same)

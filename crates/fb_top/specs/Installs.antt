@@ -16,7 +16,8 @@ use Rattle.fb_top.specs.HostWords.{FlashAllText}
 use Rattle.fb_top.specs.Products.{ProductValue, Fault, product_of}
 use Rattle.fb_top.specs.Asking.{IsCut}
 use Rattle.fb_top.specs.declared.product.Product.{Product}
-use Rattle.fb_top.specs.Runs.{installed, product_value}
+use Rattle.fb_top.specs.Runs.{installed, product_value, Quiet}
+use Rattle.fb_top.specs.Outcomes.{Outcome, Elsewhere, Flawed, Aimless, NoDevice, NoPlan, Refusing, IsOutcome}
 
 -- the device after a product is installed, None of what is no product
 abbrev pub installed_from : Result ProductValue Fault → Dev → Option Dev
@@ -62,22 +63,58 @@ abbrev pub IsAbsent : Option FlashAllText → Stands → Type 0
 IsAbsent None stands = ⊥
 IsAbsent (Some words) stands = IsNothing stands (ImageAt words.image)
 
--- Why fbflash doesn't succeed: the directory failed or is another, the link is cut or there is no target, or
--- the output took less than a line.
-abbrev pub WhyHost : Type 0 → Type 0 → Type 0 → HostError → Type 0
-WhyHost Dir Cut Unput host.Memory = Unit {0}
-WhyHost Dir Cut Unput host.NoDirectory = Dir
-WhyHost Dir Cut Unput (host.Product flawed.Memory) = Unit {0}
-WhyHost Dir Cut Unput (host.Product (flawed.Directory file)) = Dir
-WhyHost Dir Cut Unput (host.Product (flawed.Bad file flaw)) = Unit {0}
-WhyHost Dir Cut Unput host.Link = Cut
-WhyHost Dir Cut Unput (host.Device kind) = Unit {0}
-WhyHost Dir Cut Unput (host.Run stop.Memory) = Unit {0}
-WhyHost Dir Cut Unput (host.Run stop.Output) = Unput
-WhyHost Dir Cut Unput (host.Run stop.Link) = Cut
-WhyHost Dir Cut Unput (host.Run (stop.Refused text)) = Unit {0}
-WhyHost Dir Cut Unput (host.Run (stop.Unknown kept)) = Unit {0}
-WhyHost Dir Cut Unput (host.Run (stop.Plan line kind)) = Unit {0}
+-- it isn't told what the target stands for
+abbrev pub IsUntold : Option FlashAllText → Stands → Type 0
+IsUntold None stands = ⊥
+IsUntold (Some words) stands = stands (ImageAt words.image) ≡ None
+
+-- Why fbflash doesn't succeed: by the outcome where it is told, and by what failed.
+abbrev pub WhyHost : List ℕ → Option Outcome → Type 0 → Type 0 → Type 0 → Type 0 → Type 0 → Type 0 → Type 0 → HostError → Type 0
+WhyHost dir o Dir Else Cut Absent Faulty Unput Untold host.Memory = Unit {0}
+WhyHost dir o Dir Else Cut Absent Faulty Unput Untold host.NoDirectory = Dir ⊎ (Else × IsOutcome o (Elsewhere dir))
+WhyHost dir o Dir Else Cut Absent Faulty Unput Untold (host.Product flawed.Memory) = Unit {0}
+WhyHost dir o Dir Else Cut Absent Faulty Unput Untold (host.Product (flawed.Directory file)) = Dir
+WhyHost dir o Dir Else Cut Absent Faulty Unput Untold (host.Product (flawed.Bad file flaw)) = IsOutcome o (Flawed file flaw)
+WhyHost dir o Dir Else Cut Absent Faulty Unput Untold host.Link = Cut ⊎ (Absent × IsOutcome o Aimless)
+WhyHost dir o Dir Else Cut Absent Faulty Unput Untold (host.Device kind) = IsOutcome o (NoDevice kind)
+WhyHost dir o Dir Else Cut Absent Faulty Unput Untold (host.Run stop.Memory) = Unit {0}
+WhyHost dir o Dir Else Cut Absent Faulty Unput Untold (host.Run stop.Output) = Unput
+WhyHost dir o Dir Else Cut Absent Faulty Unput Untold (host.Run stop.Link) = Cut
+WhyHost dir o Dir Else Cut Absent Faulty Unput Untold (host.Run (stop.Refused text)) = IsOutcome o (Refusing text) ⊎ Faulty
+WhyHost dir o Dir Else Cut Absent Faulty Unput Untold (host.Run (stop.Unknown kept)) = Untold × (o ≡ None)
+WhyHost dir o Dir Else Cut Absent Faulty Unput Untold (host.Run (stop.Plan line kind)) = IsOutcome o (NoPlan line kind)
+
+-- the error comes before the port is aimed
+abbrev pub IsEarly : HostError → Type 0
+IsEarly (host.Run stop) = ⊥
+IsEarly _ = Unit {0}
+
+-- the told device is what stands here, where that is told
+abbrev pub IsStillBy : Option Stand → Option Peer → Type 0
+IsStillBy None b = Unit {0}
+IsStillBy (Some stand) None = ⊥
+IsStillBy (Some stand) (Some b) = stand ≡ Device (device_of b)
+
+-- the same of the words' target
+abbrev pub IsStill : Option FlashAllText → Stands → Option Peer → Type 0
+IsStill None stands b = ⊥
+IsStill (Some words) stands b = IsStillBy (stands (ImageAt words.image)) b
+
+-- What an attempt leaves that doesn't succeed: before the port is aimed, all targets as they were; where no plan
+-- was made or the first step was refused, the device as it was.
+abbrev pub Leaves : Option Stand → Stands → Stands → Option Peer → Type 0 → HostError → Type 0
+Leaves stand before now b Faulty (host.Run stop.Memory) = Unit {0}
+Leaves stand before now b Faulty (host.Run stop.Output) = Unit {0}
+Leaves stand before now b Faulty (host.Run stop.Link) = Unit {0}
+Leaves stand before now b Faulty (host.Run (stop.Refused text)) = IsStillBy stand b ⊎ Faulty
+Leaves stand before now b Faulty (host.Run (stop.Unknown kept)) = Unit {0}
+Leaves stand before now b Faulty (host.Run (stop.Plan line kind)) = IsStillBy stand b
+Leaves stand before now b Faulty _ = now ≡ before
+
+-- what was printed as an attempt stopped: nothing before the port was aimed
+abbrev pub QuietHost : Option Outcome → Option (List ℕ) → Option (List ℕ) → Type 0 → HostError → Type 0
+QuietHost o before now Faulty (host.Run e) = Quiet before now Faulty (o ≡ None) e
+QuietHost o before now Faulty _ = now ≡ before
 
 -- the status of each
 abbrev pub status_of : HostError → ℕ

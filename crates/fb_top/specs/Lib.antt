@@ -4,6 +4,9 @@ pub mod Asking
 pub mod Plans
 pub mod Questions
 pub mod Flashing
+pub mod Outcomes
+pub mod Printed
+pub mod Reports
 pub mod Runs
 pub mod SizeText
 pub mod Installs

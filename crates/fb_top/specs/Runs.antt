@@ -18,6 +18,7 @@ use Rattle.fb_top.specs.declared.product.Product.{Product}
 use Rattle.fb_top.specs.declared.run.RunError.{RunError}
 use Rattle.fb_top.specs.declared.run.RunError.TheVariants.{Memory, Output, Link, Refused, Unknown, Plan}
 use Rattle.fb_top.specs.Flashing.{OnDevice, OnTold}
+use Rattle.fb_top.specs.Outcomes.{first_refusal}
 use Rattle.fb_top.specs.Plans.{PlanFault, plan_of}
 use Rattle.fb_top.specs.Products.{ProductValue}
 
@@ -75,14 +76,14 @@ two_steps product = Put product.name product.image ∷ Boot System ∷ []
 abbrev pub Ran : List Step → Option Peer → Option Peer → Type 0
 Ran steps a b = OnDevice (λ s t. run steps s ≡ Some t) a b
 
--- The device takes none of these steps, and is as it was.
-pub record Sticks (steps : List Step) (s t : Dev) : Type 0 where
-  pub stuck : run steps s ≡ None
+-- The device refuses one of these steps with this text, and is as it was.
+pub record Sticks (steps : List Step) (text : List ℕ) (s t : Dev) : Type 0 where
+  pub stuck : first_refusal steps s ≡ Some text
   pub same : t ≡ s
 
 -- the device refuses the first step, or a disk call failed
 abbrev pub Stuck : List Step → ℕ → ℕ → Option Peer → Option Peer → List ℕ → Type 0
-Stuck steps before now a b text = OnDevice (Sticks steps) a b ⊎ Rose before now
+Stuck steps before now a b text = OnDevice (Sticks steps text) a b ⊎ Rose before now
 
 -- the device is as it was
 abbrev pub SameDevice : Option Peer → Option Peer → Type 0
@@ -96,12 +97,27 @@ NoPlan line kind = ⊥
 abbrev pub Unplanned : ProductValue → Option Peer → Option Peer → ℕ → PlanKind → Type 0
 Unplanned product a b line kind = Planned product (Err (line, kind)) a b
 
--- the told device refuses the product: its plan is made, and can't be run
+-- The plan over the device is made, the device refuses a step of it with this text, and is as it was.
+pub record Unruns (product : ProductValue) (text : List ℕ) (s t : Dev) : Type 0 where
+  pub plan_is : plan_of product s ≡ Ok (two_steps product)
+  pub stuck : first_refusal (two_steps product) s ≡ Some text
+  pub same : t ≡ s
+
+-- the told device refuses a step of the product's plan, or a disk call failed
 abbrev pub Unrun : ProductValue → ℕ → ℕ → Option Peer → Option Peer → List ℕ → Type 0
-Unrun product before now a b text = OnTold (λ s t. (plan_of product s ≡ Ok (two_steps product)) × (run (two_steps product) s ≡ None)) a b ⊎ Rose before now
+Unrun product before now a b text = OnTold (Unruns product text) a b ⊎ Rose before now
 
 -- a line wasn't said: for want of memory, or where the count of the output's faults rose
 abbrev pub IsUnsaid : ℕ → ℕ → RunError → Type 0
 IsUnsaid before now Memory = Unit {0}
 IsUnsaid before now Output = Rose before now
 IsUnsaid before now _ = ⊥
+
+-- What was printed as an attempt stopped: nothing where no plan was made or the first step was refused.
+abbrev pub Quiet : Option (List ℕ) → Option (List ℕ) → Type 0 → Type 0 → RunError → Type 0
+Quiet before now Faulty Untold Memory = Unit {0}
+Quiet before now Faulty Untold Output = Unit {0}
+Quiet before now Faulty Untold Link = Unit {0}
+Quiet before now Faulty Untold (Refused text) = (now ≡ before) ⊎ (Faulty ⊎ Untold)
+Quiet before now Faulty Untold (Unknown kept) = Unit {0}
+Quiet before now Faulty Untold (Plan line kind) = now ≡ before

@@ -1,10 +1,14 @@
-ghost use Rattle.std.specs.Prelude.{◌≡◌, ◌≢◌, ◌⊎◌, ℕ, ◌≤◌, List, map, Option, Some, None, IsTrue, OnOk, IfOk, IfErr, string_bytes, option_map};
+ghost use Rattle.std.specs.Prelude.{◌≡◌, ◌≢◌, ◌⊎◌, ℕ, ◌≤◌, List, map, Option, Some, None, false, IsTrue, OnOk, IfOk, IfErr, string_bytes, option_map};
 ghost use Rattle.fb_frame.specs.Causes.{Rose};
-ghost use Rattle.wire_model.specs.Places.{ImageAt};
+ghost use Rattle.wire_model.specs.Places.{ImageAt, Stands};
 ghost use Rattle.fb_top.specs.Asking.{IsCut};
 ghost use Rattle.fb_top.specs.HostWords.{host_words, text_of};
-ghost use Rattle.fb_top.specs.Installs.{Succeeds, Installs, IsElsewhere, IsAbsent, WhyHost, status_of, OfProduct, InstallsOn};
+ghost use Rattle.fb_top.specs.Installs.{Succeeds, Installs, IsElsewhere, IsAbsent, IsUntold, IsEarly, IsStill, Leaves, QuietHost, WhyHost, status_of, OfProduct, InstallsOn};
+ghost use Rattle.fb_top.specs.Outcomes.{outcome_of, words_outcome, product_outcome, is_elsewhere};
+ghost use Rattle.fb_top.specs.Printed.{printed};
 ghost use Rattle.fb_top.specs.Products.{IsRawImage};
+ghost use Rattle.fb_top.specs.Reports.{Reports, IsDone, Ends, EndsBy};
+ghost use Rattle.fb_top.specs.Runs.{product_value};
 
 use crate::host_words::{FlashAll, read_host_words};
 use crate::lines::error_line;
@@ -62,7 +66,9 @@ fn open_product<D: ProductDir>(
 ) -> Result<Product, HostError>
     ensures product { IfOk result (λ p. OfProduct (D.files dir.old) p) }
     ensures raw { IfOk result (λ p. IsRawImage p.image) }
-    ensures why { IfErr result (λ e. WhyHost (Rose (D.faults dir.old) (D.faults dir.new) ⊎ IsElsewhere (Some (text_of words.now)) (D.told_path dir.old)) ⊥ ⊥ e) }
+    ensures here { OnOk result (is_elsewhere (text_of words.now) (D.told_path dir.old) ≡ false) }
+    ensures why { IfErr result (λ e. (stands : Stands) → WhyHost (text_of words.now).dir (words_outcome (text_of words.now) (D.told_path dir.old) (D.files dir.old) stands) (Rose (D.faults dir.old) (D.faults dir.new)) (IsElsewhere (Some (text_of words.now)) (D.told_path dir.old)) ⊥ ⊥ ⊥ ⊥ ⊥ e) }
+    ensures early { IfErr result (λ e. IsEarly e) }
     ensures later { D.faults dir.old ≤ D.faults dir.new }
 {
     match dir.enter(alloc, words.dir) {
@@ -77,7 +83,7 @@ fn open_product<D: ProductDir>(
     }
 }
 
-/// Aims at the words' target, and installs the product on the device that it stands for.
+/// Aims at the words' target, installs the product on the device that it stands for, and hangs up.
 #[tactic(auto, using(crate::proofs::HostLemmas::installs))]
 fn flash_product<P: Port, S: Sink>(
     alloc: Global,
@@ -88,7 +94,10 @@ fn flash_product<P: Port, S: Sink>(
 ) -> Result<(), HostError>
     requires { IsRawImage product.now.image }
     ensures success { OnOk result (InstallsOn product.now (P.stands port.old) (ImageAt words.now.image.now) (P.peer port.new)) }
-    ensures why { IfErr result (λ e. WhyHost ⊥ (IsCut (P.faults port.old) (P.faults port.new) (P.ends port.old) (P.ends port.new) ⊎ IsAbsent (Some (text_of words.now)) (P.stands port.old)) (Rose (S.faults out.old) (S.faults out.new)) e) }
+    ensures done { OnOk result (IsDone (product_outcome (product_value product.now) (P.stands port.old (ImageAt words.now.image.now))) (S.text out.old) (S.text out.new)) }
+    ensures quiet { IfErr result (λ e. QuietHost (product_outcome (product_value product.now) (P.stands port.old (ImageAt words.now.image.now))) (S.text out.old) (S.text out.new) (Rose (P.faults port.old) (P.faults port.new)) e) }
+    ensures why { IfErr result (λ e. WhyHost (text_of words.now).dir (product_outcome (product_value product.now) (P.stands port.old (ImageAt words.now.image.now))) ⊥ ⊥ (IsCut (P.faults port.old) (P.faults port.new) (P.ends port.old) (P.ends port.new)) (IsAbsent (Some (text_of words.now)) (P.stands port.old)) (Rose (P.faults port.old) (P.faults port.new)) (Rose (S.faults out.old) (S.faults out.new)) (IsUntold (Some (text_of words.now)) (P.stands port.old)) e) }
+    ensures left { IfErr result (λ e. Leaves (P.stands port.old (ImageAt words.now.image.now)) (P.stands port.old) (P.stands port.new) (P.peer port.new) (Rose (P.faults port.old) (P.faults port.new)) e) }
     ensures later { P.faults port.old ≤ P.faults port.new }
     ensures ends { P.ends port.old ≤ P.ends port.new }
     ensures said { S.faults out.old ≤ S.faults out.new }
@@ -100,7 +109,9 @@ fn flash_product<P: Port, S: Sink>(
         Err(AimError::NoTarget) => return Err(HostError::Link),
         Err(AimError::Link) => return Err(HostError::Link),
     }
-    match drive(alloc, port, product, out) {
+    let outcome = drive(alloc, port, product, out);
+    port.hang_up();
+    match outcome {
         Ok(()) => Ok(()),
         Err(e) => Err(HostError::Run(e)),
     }
@@ -116,7 +127,10 @@ fn flash_all<D: ProductDir, P: Port, S: Sink>(
     out: &mut S,
 ) -> Result<(), HostError>
     ensures success { OnOk result (Succeeds (text_of words.now) (D.files dir.old) (P.stands port.old) (P.peer port.new)) }
-    ensures why { IfErr result (λ e. WhyHost (Rose (D.faults dir.old) (D.faults dir.new) ⊎ IsElsewhere (Some (text_of words.now)) (D.told_path dir.old)) (IsCut (P.faults port.old) (P.faults port.new) (P.ends port.old) (P.ends port.new) ⊎ IsAbsent (Some (text_of words.now)) (P.stands port.old)) (Rose (S.faults out.old) (S.faults out.new)) e) }
+    ensures done { OnOk result (IsDone (words_outcome (text_of words.now) (D.told_path dir.old) (D.files dir.old) (P.stands port.old)) (S.text out.old) (S.text out.new)) }
+    ensures quiet { IfErr result (λ e. QuietHost (words_outcome (text_of words.now) (D.told_path dir.old) (D.files dir.old) (P.stands port.old)) (S.text out.old) (S.text out.new) (Rose (P.faults port.old) (P.faults port.new)) e) }
+    ensures why { IfErr result (λ e. WhyHost (text_of words.now).dir (words_outcome (text_of words.now) (D.told_path dir.old) (D.files dir.old) (P.stands port.old)) (Rose (D.faults dir.old) (D.faults dir.new)) (IsElsewhere (Some (text_of words.now)) (D.told_path dir.old)) (IsCut (P.faults port.old) (P.faults port.new) (P.ends port.old) (P.ends port.new)) (IsAbsent (Some (text_of words.now)) (P.stands port.old)) (Rose (P.faults port.old) (P.faults port.new)) (Rose (S.faults out.old) (S.faults out.new)) (IsUntold (Some (text_of words.now)) (P.stands port.old)) e) }
+    ensures left { IfErr result (λ e. Leaves (P.stands port.old (ImageAt words.now.image.now)) (P.stands port.old) (P.stands port.new) (P.peer port.new) (Rose (P.faults port.old) (P.faults port.new)) e) }
     ensures files { D.faults dir.old ≤ D.faults dir.new }
     ensures later { P.faults port.old ≤ P.faults port.new }
     ensures ends { P.ends port.old ≤ P.ends port.new }
@@ -133,7 +147,7 @@ fn flash_all<D: ProductDir, P: Port, S: Sink>(
 
 /// Puts the last line, and answers the status: 9 where the line isn't put.
 fn last_line<S: Sink>(out: &mut S, line: &[u8], status: u8) -> u8
-    ensures status { (result ≡ status) ⊎ ((result ≡ 9) × Rose (S.faults out.old) (S.faults out.new)) }
+    ensures status { Ends result status (S.text out.old) (S.text out.new) line.now (Rose (S.faults out.old) (S.faults out.new)) }
     ensures later { S.faults out.old ≤ S.faults out.new }
 {
     match out.put(line) {
@@ -144,7 +158,7 @@ fn last_line<S: Sink>(out: &mut S, line: &[u8], status: u8) -> u8
 
 /// Puts the line that names the error, unless the output failed already, and answers its status.
 fn report<S: Sink>(alloc: Global, words: &FlashAll<'_>, error: &HostError, out: &mut S) -> u8
-    ensures status { (result ≡ status_of error.now) ⊎ ((result ≡ 2) ⊎ ((result ≡ 9) × Rose (S.faults out.old) (S.faults out.new))) }
+    ensures status { EndsBy result (status_of error.now) (S.text out.old) (S.text out.new) (printed (text_of words.now).dir error.now) (Rose (S.faults out.old) (S.faults out.new)) }
     ensures later { S.faults out.old ≤ S.faults out.new }
 {
     let status = status_of(error);
@@ -159,7 +173,7 @@ fn report<S: Sink>(alloc: Global, words: &FlashAll<'_>, error: &HostError, out: 
     answer
 }
 
-/// Does what the words ask for, hangs up, and puts the last line.
+/// Does what the words ask for, and puts the last line.
 #[tactic(auto, using(crate::proofs::HostLemmas::ends))]
 fn run_words<D: ProductDir, P: Port, S: Sink>(
     alloc: Global,
@@ -170,13 +184,17 @@ fn run_words<D: ProductDir, P: Port, S: Sink>(
 ) -> u8
     ensures success { result ≡ 0 → Succeeds (text_of words.now) (D.files dir.old) (P.stands port.old) (P.peer port.new) }
     ensures usage { result ≢ 1 }
+    ensures reported { Reports (words_outcome (text_of words.now) (D.told_path dir.old) (D.files dir.old) (P.stands port.old)) result (S.text out.old) (S.text out.new) (Rose (D.faults dir.old) (D.faults dir.new)) (IsCut (P.faults port.old) (P.faults port.new) (P.ends port.old) (P.ends port.new)) (Rose (P.faults port.old) (P.faults port.new)) (Rose (S.faults out.old) (S.faults out.new)) }
     ensures directory { result ≡ 3 → Rose (D.faults dir.old) (D.faults dir.new) ⊎ IsElsewhere (Some (text_of words.now)) (D.told_path dir.old) }
+    ensures requirement { result ≢ 5 }
     ensures link { result ≡ 6 → IsCut (P.faults port.old) (P.faults port.new) (P.ends port.old) (P.ends port.new) ⊎ IsAbsent (Some (text_of words.now)) (P.stands port.old) }
+    ensures peer { result ≡ 8 → IsUntold (Some (text_of words.now)) (P.stands port.old) }
     ensures output { result ≡ 9 → Rose (S.faults out.old) (S.faults out.new) }
+    ensures untouched { (result ≡ 3) ⊎ ((result ≡ 4) ⊎ (result ≡ 11)) → P.stands port.new ≡ P.stands port.old }
+    ensures unplanned { result ≡ 10 → IsStill (Some (text_of words.now)) (P.stands port.old) (P.peer port.new) }
+    ensures unflashed { result ≡ 7 → IsStill (Some (text_of words.now)) (P.stands port.old) (P.peer port.new) ⊎ Rose (P.faults port.old) (P.faults port.new) }
 {
-    let outcome = flash_all(alloc, words, dir, port, out);
-    port.hang_up();
-    match outcome {
+    match flash_all(alloc, words, dir, port, out) {
         Ok(()) => {
             let status = last_line(out, b"done 2\n", 0);
             status
@@ -201,9 +219,15 @@ pub fn host_main<D: ProductDir, P: Port, S: Sink>(
     ensures success { result ≡ 0 → Installs (host_words (map string_bytes words.now)) (D.files dir.old) (P.stands port.old) (P.peer port.new) }
     ensures usage { result ≡ 1 → host_words (map string_bytes words.now) ≡ None }
     ensures refused { host_words (map string_bytes words.now) ≡ None → (result ≡ 1) ⊎ ((result ≡ 9) × Rose (S.faults out.old) (S.faults out.new)) }
+    ensures reported { Reports (outcome_of (host_words (map string_bytes words.now)) (D.told_path dir.old) (D.files dir.old) (P.stands port.old)) result (S.text out.old) (S.text out.new) (Rose (D.faults dir.old) (D.faults dir.new)) (IsCut (P.faults port.old) (P.faults port.new) (P.ends port.old) (P.ends port.new)) (Rose (P.faults port.old) (P.faults port.new)) (Rose (S.faults out.old) (S.faults out.new)) }
     ensures directory { result ≡ 3 → Rose (D.faults dir.old) (D.faults dir.new) ⊎ IsElsewhere (host_words (map string_bytes words.now)) (D.told_path dir.old) }
+    ensures requirement { result ≢ 5 }
     ensures link { result ≡ 6 → IsCut (P.faults port.old) (P.faults port.new) (P.ends port.old) (P.ends port.new) ⊎ IsAbsent (host_words (map string_bytes words.now)) (P.stands port.old) }
+    ensures peer { result ≡ 8 → IsUntold (host_words (map string_bytes words.now)) (P.stands port.old) }
     ensures output { result ≡ 9 → Rose (S.faults out.old) (S.faults out.new) }
+    ensures untouched { (result ≡ 1) ⊎ ((result ≡ 3) ⊎ ((result ≡ 4) ⊎ (result ≡ 11))) → P.stands port.new ≡ P.stands port.old }
+    ensures unplanned { result ≡ 10 → IsStill (host_words (map string_bytes words.now)) (P.stands port.old) (P.peer port.new) }
+    ensures unflashed { result ≡ 7 → IsStill (host_words (map string_bytes words.now)) (P.stands port.old) (P.peer port.new) ⊎ Rose (P.faults port.old) (P.faults port.new) }
 {
     match read_host_words(words) {
         None => {

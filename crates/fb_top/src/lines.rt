@@ -1,4 +1,7 @@
-ghost use Rattle.std.specs.Prelude.{◌<◌};
+ghost use Rattle.std.specs.Prelude.{◌≡◌, ◌++◌, take, OnOk, IfOk};
+ghost use Rattle.hex.specs.Hex.{encode_lower};
+ghost use Rattle.fb_top.specs.HostWords.{text_of};
+ghost use Rattle.fb_top.specs.Printed.{shown_byte, shown, flaw_text, plan_text, image_text, directory_text, flawed_text, refused_text, unplanned_text, peer_text, product_text, stop_text, host_text, printed};
 
 use crate::host::HostError;
 use crate::host_words::FlashAll;
@@ -12,36 +15,45 @@ use std::alloc::{AllocError, Global};
 /// How many kept bytes of a peer are printed.
 const MOST_KEPT: usize = 32;
 
-/// Adds a text of the outside, with each byte that isn't printed ASCII shown as `?`.
-fn add_shown(line: &mut Vec<u8>, text: &[u8]) -> Result<(), AllocError> {
+/// A byte of a text of the outside, `?` where it isn't printed ASCII.
+fn shown_byte(b: u8) -> u8
+    ensures { result ≡ shown_byte b }
+{
+    if b >= 0x20 && b <= 0x7e { b } else { b'?' }
+}
+
+/// Adds a text of the outside as it is printed.
+fn add_shown(line: &mut Vec<u8>, text: &[u8]) -> Result<(), AllocError>
+    ensures { OnOk result (line.new.items ≡ line.old.items ++ shown text.now) }
+{
     for b in text {
-        let shown = if *b >= 0x20 && *b <= 0x7e { *b } else { b'?' };
-        line.push(shown)?;
+        line.push(shown_byte(*b))?;
     }
     Ok(())
 }
 
-fn hex_digit(nibble: u8) -> u8
-    requires { nibble < 16 }
+/// The first kept bytes.
+fn front(kept: &[u8]) -> &[u8]
+    ensures { result.now ≡ take 32 kept.now }
 {
-    if nibble < 10 {
-        b'0' + nibble
+    if kept.len() > MOST_KEPT {
+        &kept[..MOST_KEPT]
     } else {
-        b'a' - 10 + nibble
+        kept
     }
 }
 
 /// Adds the first kept bytes in lower-case hexadecimal.
-fn add_hex(line: &mut Vec<u8>, kept: &[u8]) -> Result<(), AllocError> {
-    let end = kept.len().min(MOST_KEPT);
-    for b in &kept[..end] {
-        line.push(hex_digit(*b / 16))?;
-        line.push(hex_digit(*b % 16))?;
-    }
-    Ok(())
+fn add_hex(alloc: Global, line: &mut Vec<u8>, kept: &[u8]) -> Result<(), AllocError>
+    ensures { OnOk result (line.new.items ≡ line.old.items ++ encode_lower (take 32 kept.now)) }
+{
+    let digits = hex::encode(alloc, front(kept))?;
+    line.extend_from_slice(digits.as_bytes())
 }
 
-fn flaw_text(flaw: Flaw) -> &'static [u8] {
+fn flaw_text(flaw: Flaw) -> &'static [u8]
+    ensures { result.now ≡ flaw_text flaw }
+{
     match flaw {
         Flaw::Absent => b"Absent",
         Flaw::NotBuilt => b"NotBuilt",
@@ -49,14 +61,18 @@ fn flaw_text(flaw: Flaw) -> &'static [u8] {
     }
 }
 
-fn plan_text(kind: PlanKind) -> &'static [u8] {
+fn plan_text(kind: PlanKind) -> &'static [u8]
+    ensures { result.now ≡ plan_text kind }
+{
     match kind {
         PlanKind::NotBuilt => b"NotBuilt",
         PlanKind::NoPartition => b"NoPartition",
     }
 }
 
-fn image_text(kind: BadImage) -> &'static [u8] {
+fn image_text(kind: BadImage) -> &'static [u8]
+    ensures { result.now ≡ image_text kind }
+{
     match kind {
         BadImage::ShortFile => b"ShortFile",
         BadImage::BadLayout => b"BadLayout",
@@ -68,25 +84,50 @@ fn image_text(kind: BadImage) -> &'static [u8] {
     }
 }
 
+/// Adds the directory or the file that can't be read.
+fn add_directory(line: &mut Vec<u8>, name: &[u8]) -> Result<(), AllocError>
+    ensures { OnOk result (line.new.items ≡ line.old.items ++ directory_text name.now) }
+{
+    line.extend_from_slice(b"directory ")?;
+    add_shown(line, name)
+}
+
+/// Adds the file with a flaw.
+fn add_flaw(line: &mut Vec<u8>, file: &[u8], flaw: Flaw) -> Result<(), AllocError>
+    ensures { OnOk result (line.new.items ≡ line.old.items ++ flawed_text file.now flaw) }
+{
+    line.extend_from_slice(b"product ")?;
+    add_shown(line, file)?;
+    line.extend_from_slice(b" ")?;
+    line.extend_from_slice(flaw_text(flaw))
+}
+
+/// Adds the line of the task of which no plan is made.
+fn add_unplanned(line: &mut Vec<u8>, at: u32, kind: PlanKind) -> Result<(), AllocError>
+    ensures { OnOk result (line.new.items ≡ line.old.items ++ unplanned_text at kind) }
+{
+    line.extend_from_slice(b"plan line ")?;
+    let mut digits = Buffer::new();
+    line.extend_from_slice(digits.format(at).as_bytes())?;
+    line.extend_from_slice(b" ")?;
+    line.extend_from_slice(plan_text(kind))
+}
+
 /// Adds what is wrong with a product.
-fn add_product(line: &mut Vec<u8>, error: &ProductError) -> Result<(), AllocError> {
+fn add_product(line: &mut Vec<u8>, error: &ProductError) -> Result<(), AllocError>
+    ensures { OnOk result (line.new.items ≡ line.old.items ++ product_text error.now) }
+{
     match error {
         ProductError::Memory => line.extend_from_slice(b"memory"),
-        ProductError::Directory(file) => {
-            line.extend_from_slice(b"directory ")?;
-            add_shown(line, file.bytes())
-        }
-        ProductError::Bad(file, flaw) => {
-            line.extend_from_slice(b"product ")?;
-            add_shown(line, file.bytes())?;
-            line.extend_from_slice(b" ")?;
-            line.extend_from_slice(flaw_text(*flaw))
-        }
+        ProductError::Directory(file) => add_directory(line, file.bytes()),
+        ProductError::Bad(file, flaw) => add_flaw(line, file.bytes(), *flaw),
     }
 }
 
 /// Adds what an installation stopped at.
-fn add_stop(line: &mut Vec<u8>, error: &RunError) -> Result<(), AllocError> {
+fn add_stop(alloc: Global, line: &mut Vec<u8>, error: &RunError) -> Result<(), AllocError>
+    ensures { OnOk result (line.new.items ≡ line.old.items ++ stop_text error.now) }
+{
     match error {
         RunError::Memory => line.extend_from_slice(b"memory"),
         RunError::Output => line.extend_from_slice(b"output"),
@@ -97,15 +138,31 @@ fn add_stop(line: &mut Vec<u8>, error: &RunError) -> Result<(), AllocError> {
         }
         RunError::Unknown(kept) => {
             line.extend_from_slice(b"peer ")?;
-            add_hex(line, kept.bytes())
+            add_hex(alloc, line, kept.bytes())
         }
-        RunError::Plan(at, kind) => {
-            line.extend_from_slice(b"plan line ")?;
-            let mut digits = Buffer::new();
-            line.extend_from_slice(digits.format(*at).as_bytes())?;
-            line.extend_from_slice(b" ")?;
-            line.extend_from_slice(plan_text(*kind))
+        RunError::Plan(at, kind) => add_unplanned(line, *at, *kind),
+    }
+}
+
+/// Adds what is wrong.
+fn add_error(
+    alloc: Global,
+    line: &mut Vec<u8>,
+    words: &FlashAll<'_>,
+    error: &HostError,
+) -> Result<(), AllocError>
+    ensures { OnOk result (line.new.items ≡ line.old.items ++ host_text (text_of words.now).dir error.now) }
+{
+    match error {
+        HostError::Memory => line.extend_from_slice(b"memory"),
+        HostError::NoDirectory => add_directory(line, words.dir.as_bytes()),
+        HostError::Product(error) => add_product(line, error),
+        HostError::Link => line.extend_from_slice(b"link"),
+        HostError::Device(kind) => {
+            line.extend_from_slice(b"device ")?;
+            line.extend_from_slice(image_text(*kind))
         }
+        HostError::Run(stop) => add_stop(alloc, line, stop),
     }
 }
 
@@ -114,23 +171,12 @@ pub fn error_line(
     alloc: Global,
     words: &FlashAll<'_>,
     error: &HostError,
-) -> Result<Vec<u8>, AllocError> {
+) -> Result<Vec<u8>, AllocError>
+    ensures { IfOk result (λ line. line.items ≡ printed (text_of words.now).dir error.now) }
+{
     let mut line = Vec::new(alloc);
     line.extend_from_slice(b"error ")?;
-    match error {
-        HostError::Memory => line.extend_from_slice(b"memory")?,
-        HostError::NoDirectory => {
-            line.extend_from_slice(b"directory ")?;
-            add_shown(&mut line, words.dir.as_bytes())?;
-        }
-        HostError::Product(error) => add_product(&mut line, error)?,
-        HostError::Link => line.extend_from_slice(b"link")?,
-        HostError::Device(kind) => {
-            line.extend_from_slice(b"device ")?;
-            line.extend_from_slice(image_text(*kind))?;
-        }
-        HostError::Run(stop) => add_stop(&mut line, stop)?,
-    }
+    add_error(alloc, &mut line, words, error)?;
     line.extend_from_slice(b"\n")?;
     Ok(line)
 }

@@ -1,11 +1,13 @@
-ghost use Rattle.std.specs.Prelude.{◌≡◌, ◌⊎◌, ℕ, ◌+◌, ◌*◌, ◌≤◌, ◌^◌, List, [], ◌∷◌, ◌++◌, Ok, Err, length, codes, decimal, IsTrue, OnOk, IfOk, IfErr};
+ghost use Rattle.std.specs.Prelude.{◌≡◌, ◌⊎◌, ℕ, ◌+◌, ◌*◌, ◌≤◌, ◌^◌, List, Ok, Err, None, length, IsTrue, OnOk, IfOk, IfErr};
 ghost use Rattle.fb_frame.specs.Causes.{Rose};
+ghost use Rattle.fb_frame.specs.Sinks.{Grew};
 ghost use Rattle.wire_model.specs.Places.{IsKept};
 ghost use Rattle.wire_model.specs.Told.{Idle};
 ghost use Rattle.fb_top.specs.Asking.{ValidPeer, IsCut, NoneRefuses};
 ghost use Rattle.fb_top.specs.Flashing.{Serves};
+ghost use Rattle.fb_top.specs.Printed.{flash_line, step_lines};
 ghost use Rattle.fb_top.specs.Products.{IsRawImage};
-ghost use Rattle.fb_top.specs.Runs.{product_value, two_steps, IsAimed, Planned, Installed, WhyRun, run_error, Ran, Stuck, NoPlan, Unplanned, Unrun, IsUnsaid};
+ghost use Rattle.fb_top.specs.Runs.{product_value, two_steps, IsAimed, Planned, Installed, WhyRun, run_error, Ran, Stuck, NoPlan, Unplanned, Unrun, IsUnsaid, Quiet};
 
 use crate::asking::{AskFail, kept};
 use crate::flashing::{flash, reboot};
@@ -81,7 +83,7 @@ fn decide<P: Port>(port: &mut P, product: &Product) -> Result<(), RunError>
 
 /// The line that says that a flash was acknowledged.
 fn flash_line(alloc: Global, name: &Name, length: usize) -> Result<Vec<u8>, AllocError>
-    ensures { IfOk result (λ line. line.items ≡ codes "flash " ++ name.now ++ codes " " ++ decimal length ++ 10 ∷ []) }
+    ensures { IfOk result (λ line. line.items ≡ flash_line name.now length) }
 {
     let mut line = Vec::new(alloc);
     line.extend_from_slice(b"flash ")?;
@@ -100,6 +102,7 @@ fn say_flash<S: Sink>(
     length: usize,
     out: &mut S,
 ) -> Result<(), RunError>
+    ensures said { OnOk result (Grew (S.text out.old) (S.text out.new) (flash_line name.now length)) }
     ensures why { IfErr result (λ e. IsUnsaid (S.faults out.old) (S.faults out.new) e) }
     ensures later { S.faults out.old ≤ S.faults out.new }
 {
@@ -130,7 +133,9 @@ fn run_steps<P: Port, S: Sink>(
     ensures kept { IsKept (P.aimed port.old) (P.aimed port.new) (P.last port.old) (P.last port.new) (P.stands port.old) (P.stands port.new) }
     ensures later { P.faults port.old ≤ P.faults port.new }
     ensures ends { P.ends port.old ≤ P.ends port.new }
-    ensures said { S.faults out.old ≤ S.faults out.new }
+    ensures said { OnOk result (Grew (S.text out.old) (S.text out.new) (step_lines product.now.name (length product.now.image))) }
+    ensures quiet { IfErr result (λ e. Quiet (S.text out.old) (S.text out.new) (Rose (P.faults port.old) (P.faults port.new)) (P.peer port.old ≡ None) e) }
+    ensures put { S.faults out.old ≤ S.faults out.new }
 {
     let image = product.image.as_slice();
     match flash(port, &product.name, image) {
@@ -167,7 +172,9 @@ pub fn drive<P: Port, S: Sink>(
     ensures kept { IsKept (P.aimed port.old) (P.aimed port.new) (P.last port.old) (P.last port.new) (P.stands port.old) (P.stands port.new) }
     ensures later { P.faults port.old ≤ P.faults port.new }
     ensures ends { P.ends port.old ≤ P.ends port.new }
-    ensures said { S.faults out.old ≤ S.faults out.new }
+    ensures said { OnOk result (Grew (S.text out.old) (S.text out.new) (step_lines product.now.name (length product.now.image))) }
+    ensures quiet { IfErr result (λ e. Quiet (S.text out.old) (S.text out.new) (Rose (P.faults port.old) (P.faults port.new)) (P.peer port.old ≡ None) e) }
+    ensures put { S.faults out.old ≤ S.faults out.new }
 {
     match open(port) {
         Ok(()) => {}
