@@ -16,3 +16,4 @@ pub mod PlainCuts
 pub mod PlainTakes
 pub mod PlainLayouts
 pub mod PlainFiles
+pub mod PlainHeld

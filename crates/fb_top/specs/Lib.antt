@@ -9,6 +9,7 @@ pub mod SizeText
 pub mod Installs
 pub mod PlainLayout
 pub mod PlainState
+pub mod PlainFronts
 pub mod PlainDevices
 pub mod PlainStages
 pub mod PlainWires
