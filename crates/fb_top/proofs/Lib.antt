@@ -7,6 +7,7 @@ pub mod FlashLemmas
 pub mod SizeLemmas
 pub mod RunLemmas
 pub mod HostLemmas
+pub mod TargetLemmas
 pub mod PlainLists
 pub mod PlainSays
 pub mod PlainFlash

@@ -7,6 +7,7 @@ pub mod Flashing
 pub mod Runs
 pub mod SizeText
 pub mod Installs
+pub mod Targets
 pub mod PlainLayout
 pub mod PlainState
 pub mod PlainFronts

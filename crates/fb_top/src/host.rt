@@ -1,10 +1,11 @@
 ghost use Rattle.std.specs.Prelude.{◌≡◌, ◌≢◌, ◌⊎◌, ℕ, ◌≤◌, List, map, Option, Some, None, IsTrue, OnOk, IfOk, IfErr, string_bytes, option_map};
 ghost use Rattle.fb_frame.specs.Causes.{Rose};
-ghost use Rattle.wire_model.specs.Places.{ImageAt};
+ghost use Rattle.wire_model.specs.Places.{ImageAt, IsLast, KeepsOthers};
 ghost use Rattle.fb_top.specs.Asking.{IsCut};
 ghost use Rattle.fb_top.specs.HostWords.{host_words, text_of};
 ghost use Rattle.fb_top.specs.Installs.{Succeeds, Installs, IsElsewhere, IsAbsent, WhyHost, status_of, OfProduct, InstallsOn};
 ghost use Rattle.fb_top.specs.Products.{IsRawImage};
+ghost use Rattle.fb_top.specs.Targets.{IsTurned, KeepsBeside};
 
 use crate::host_words::{FlashAll, read_host_words};
 use crate::lines::error_line;
@@ -78,7 +79,7 @@ fn open_product<D: ProductDir>(
 }
 
 /// Aims at the words' target, and installs the product on the device that it stands for.
-#[tactic(auto, using(crate::proofs::HostLemmas::installs))]
+#[tactic(auto, using(crate::proofs::HostLemmas::installs, crate::proofs::TargetLemmas::turns))]
 fn flash_product<P: Port, S: Sink>(
     alloc: Global,
     words: &FlashAll<'_>,
@@ -88,6 +89,8 @@ fn flash_product<P: Port, S: Sink>(
 ) -> Result<(), HostError>
     requires { IsRawImage product.now.image }
     ensures success { OnOk result (InstallsOn product.now (P.stands port.old) (ImageAt words.now.image.now) (P.peer port.new)) }
+    ensures turned { OnOk result (IsLast (P.stands port.new) (P.last port.new) (ImageAt words.now.image.now)) }
+    ensures others { OnOk result (KeepsOthers (Some (ImageAt words.now.image.now)) (P.stands port.old) (P.stands port.new)) }
     ensures why { IfErr result (λ e. WhyHost ⊥ (IsCut (P.faults port.old) (P.faults port.new) (P.ends port.old) (P.ends port.new) ⊎ IsAbsent (Some (text_of words.now)) (P.stands port.old)) (Rose (S.faults out.old) (S.faults out.new)) e) }
     ensures later { P.faults port.old ≤ P.faults port.new }
     ensures ends { P.ends port.old ≤ P.ends port.new }
@@ -116,6 +119,8 @@ fn flash_all<D: ProductDir, P: Port, S: Sink>(
     out: &mut S,
 ) -> Result<(), HostError>
     ensures success { OnOk result (Succeeds (text_of words.now) (D.files dir.old) (P.stands port.old) (P.peer port.new)) }
+    ensures turned { OnOk result (IsLast (P.stands port.new) (P.last port.new) (ImageAt words.now.image.now)) }
+    ensures others { OnOk result (KeepsOthers (Some (ImageAt words.now.image.now)) (P.stands port.old) (P.stands port.new)) }
     ensures why { IfErr result (λ e. WhyHost (Rose (D.faults dir.old) (D.faults dir.new) ⊎ IsElsewhere (Some (text_of words.now)) (D.told_path dir.old)) (IsCut (P.faults port.old) (P.faults port.new) (P.ends port.old) (P.ends port.new) ⊎ IsAbsent (Some (text_of words.now)) (P.stands port.old)) (Rose (S.faults out.old) (S.faults out.new)) e) }
     ensures files { D.faults dir.old ≤ D.faults dir.new }
     ensures later { P.faults port.old ≤ P.faults port.new }
@@ -160,7 +165,7 @@ fn report<S: Sink>(alloc: Global, words: &FlashAll<'_>, error: &HostError, out: 
 }
 
 /// Does what the words ask for, hangs up, and puts the last line.
-#[tactic(auto, using(crate::proofs::HostLemmas::ends))]
+#[tactic(auto, using(crate::proofs::HostLemmas::ends, crate::proofs::TargetLemmas::hangs))]
 fn run_words<D: ProductDir, P: Port, S: Sink>(
     alloc: Global,
     words: &FlashAll<'_>,
@@ -169,6 +174,8 @@ fn run_words<D: ProductDir, P: Port, S: Sink>(
     out: &mut S,
 ) -> u8
     ensures success { result ≡ 0 → Succeeds (text_of words.now) (D.files dir.old) (P.stands port.old) (P.peer port.new) }
+    ensures turned { result ≡ 0 → IsLast (P.stands port.new) (P.last port.new) (ImageAt words.now.image.now) }
+    ensures others { result ≡ 0 → KeepsOthers (Some (ImageAt words.now.image.now)) (P.stands port.old) (P.stands port.new) }
     ensures usage { result ≢ 1 }
     ensures directory { result ≡ 3 → Rose (D.faults dir.old) (D.faults dir.new) ⊎ IsElsewhere (Some (text_of words.now)) (D.told_path dir.old) }
     ensures link { result ≡ 6 → IsCut (P.faults port.old) (P.faults port.new) (P.ends port.old) (P.ends port.new) ⊎ IsAbsent (Some (text_of words.now)) (P.stands port.old) }
@@ -199,6 +206,8 @@ pub fn host_main<D: ProductDir, P: Port, S: Sink>(
     out: &mut S,
 ) -> u8
     ensures success { result ≡ 0 → Installs (host_words (map string_bytes words.now)) (D.files dir.old) (P.stands port.old) (P.peer port.new) }
+    ensures turned { result ≡ 0 → IsTurned (host_words (map string_bytes words.now)) (P.stands port.new) (P.last port.new) }
+    ensures others { result ≡ 0 → KeepsBeside (host_words (map string_bytes words.now)) (P.stands port.old) (P.stands port.new) }
     ensures usage { result ≡ 1 → host_words (map string_bytes words.now) ≡ None }
     ensures refused { host_words (map string_bytes words.now) ≡ None → (result ≡ 1) ⊎ ((result ≡ 9) × Rose (S.faults out.old) (S.faults out.new)) }
     ensures directory { result ≡ 3 → Rose (D.faults dir.old) (D.faults dir.new) ⊎ IsElsewhere (host_words (map string_bytes words.now)) (D.told_path dir.old) }
