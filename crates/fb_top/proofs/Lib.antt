@@ -18,3 +18,4 @@ pub mod PlainTakes
 pub mod PlainLayouts
 pub mod PlainFiles
 pub mod PlainHeld
+pub mod RehearsalLemmas

@@ -18,3 +18,4 @@ pub mod PlainTurns
 pub mod PlainPeers
 pub mod PlainStand
 pub mod PlainDisks
+pub mod Rehearsals
