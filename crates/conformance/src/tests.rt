@@ -4,6 +4,7 @@ use dev_model::device::Mode;
 use fb_frame::memory_sink::MemorySink;
 use fb_top::host::host_main;
 use fb_top::plain_port::PlainPort;
+use fb_top::rehearsal::rehearse;
 use flash_plan::memory_dir::{DirFile, MemoryDir};
 use std::alloc::{AllocError, Global};
 use std::test::Fail;
@@ -108,6 +109,32 @@ fn flashes_one_raw_image(rt: HostRuntime) -> Result<(), Fail> {
     );
     assert!(rt; done.mode == Some(Mode::System));
     assert_eq!(rt; done.file.as_slice(), device(alloc, 0, &image)?.as_slice());
+    Ok(())
+}
+
+#[test]
+fn rehearses_one_raw_image(rt: HostRuntime) -> Result<(), Fail> {
+    let alloc = rt.alloc();
+    let image = [0x11; 4096];
+    let words = words(alloc, &FLASHALL)?;
+    let mut disk = MemoryDisk::new(alloc, Vec::new(alloc))?;
+    disk.add(alloc, "dev.img", device(alloc, 0, b"")?.as_slice())?;
+    disk.add(alloc, "other.img", device(alloc, 1, b"")?.as_slice())?;
+    let mut dir = MemoryDir::new(
+        alloc,
+        "product",
+        product(alloc, Some(&image))?,
+        Vec::new(alloc),
+    )?;
+    let mut out = MemorySink::new(alloc, 1000)?;
+    let done = rehearse(alloc, words.as_slice(), &mut dir, disk, &mut out);
+    assert_eq!(rt; done.status, 0);
+    assert_eq!(rt; done.ends, 0);
+    assert_eq!(rt; out.text(), b"flash boot 4096\nreboot system\ndone 2\n".as_slice());
+    let after = device(alloc, 0, &image)?;
+    let other = device(alloc, 1, b"")?;
+    assert!(rt; done.disk.file("dev.img") == Some(after.as_slice()));
+    assert!(rt; done.disk.file("other.img") == Some(other.as_slice()));
     Ok(())
 }
 

@@ -7,6 +7,7 @@ pub mod FlashLemmas
 pub mod SizeLemmas
 pub mod RunLemmas
 pub mod HostLemmas
+pub mod TargetLemmas
 pub mod PlainLists
 pub mod PlainSays
 pub mod PlainFlash
@@ -16,3 +17,5 @@ pub mod PlainCuts
 pub mod PlainTakes
 pub mod PlainLayouts
 pub mod PlainFiles
+pub mod PlainHeld
+pub mod RehearsalLemmas

@@ -10,8 +10,10 @@ pub mod Reports
 pub mod Runs
 pub mod SizeText
 pub mod Installs
+pub mod Targets
 pub mod PlainLayout
 pub mod PlainState
+pub mod PlainFronts
 pub mod PlainDevices
 pub mod PlainStages
 pub mod PlainWires
@@ -19,3 +21,4 @@ pub mod PlainTurns
 pub mod PlainPeers
 pub mod PlainStand
 pub mod PlainDisks
+pub mod Rehearsals

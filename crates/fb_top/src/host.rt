@@ -1,6 +1,6 @@
 ghost use Rattle.std.specs.Prelude.{◌≡◌, ◌≢◌, ◌⊎◌, ℕ, ◌≤◌, List, map, Option, Some, None, false, IsTrue, OnOk, IfOk, IfErr, string_bytes, option_map};
 ghost use Rattle.fb_frame.specs.Causes.{Rose};
-ghost use Rattle.wire_model.specs.Places.{ImageAt, Stands};
+ghost use Rattle.wire_model.specs.Places.{ImageAt, Stands, IsLast, KeepsOthers};
 ghost use Rattle.fb_top.specs.Asking.{IsCut};
 ghost use Rattle.fb_top.specs.HostWords.{host_words, text_of};
 ghost use Rattle.fb_top.specs.Installs.{Succeeds, Installs, IsElsewhere, IsAbsent, IsUntold, IsEarly, IsStill, Leaves, QuietHost, WhyHost, status_of, OfProduct, InstallsOn};
@@ -9,6 +9,7 @@ ghost use Rattle.fb_top.specs.Printed.{printed};
 ghost use Rattle.fb_top.specs.Products.{IsRawImage};
 ghost use Rattle.fb_top.specs.Reports.{Reports, IsDone, Ends, EndsBy};
 ghost use Rattle.fb_top.specs.Runs.{product_value};
+ghost use Rattle.fb_top.specs.Targets.{IsTurned, TurnedBy, KeepsBeside};
 
 use crate::host_words::{FlashAll, read_host_words};
 use crate::lines::error_line;
@@ -84,7 +85,7 @@ fn open_product<D: ProductDir>(
 }
 
 /// Aims at the words' target, installs the product on the device that it stands for, and hangs up.
-#[tactic(auto, using(crate::proofs::HostLemmas::installs))]
+#[tactic(auto, using(crate::proofs::HostLemmas::installs, crate::proofs::TargetLemmas::turns, crate::proofs::TargetLemmas::hangs))]
 fn flash_product<P: Port, S: Sink>(
     alloc: Global,
     words: &FlashAll<'_>,
@@ -94,6 +95,9 @@ fn flash_product<P: Port, S: Sink>(
 ) -> Result<(), HostError>
     requires { IsRawImage product.now.image }
     ensures success { OnOk result (InstallsOn product.now (P.stands port.old) (ImageAt words.now.image.now) (P.peer port.new)) }
+    ensures turned { OnOk result (IsLast (P.stands port.new) (P.last port.new) (ImageAt words.now.image.now)) }
+    ensures run { IfErr result (λ e. TurnedBy (P.stands port.new) (P.last port.new) (ImageAt words.now.image.now) e) }
+    ensures others { KeepsOthers (Some (ImageAt words.now.image.now)) (P.stands port.old) (P.stands port.new) }
     ensures done { OnOk result (IsDone (product_outcome (product_value product.now) (P.stands port.old (ImageAt words.now.image.now))) (S.text out.old) (S.text out.new)) }
     ensures quiet { IfErr result (λ e. QuietHost (product_outcome (product_value product.now) (P.stands port.old (ImageAt words.now.image.now))) (S.text out.old) (S.text out.new) (Rose (P.faults port.old) (P.faults port.new)) e) }
     ensures why { IfErr result (λ e. WhyHost (text_of words.now).dir (product_outcome (product_value product.now) (P.stands port.old (ImageAt words.now.image.now))) ⊥ ⊥ (IsCut (P.faults port.old) (P.faults port.new) (P.ends port.old) (P.ends port.new)) (IsAbsent (Some (text_of words.now)) (P.stands port.old)) (Rose (P.faults port.old) (P.faults port.new)) (Rose (S.faults out.old) (S.faults out.new)) (IsUntold (Some (text_of words.now)) (P.stands port.old)) e) }
@@ -118,7 +122,7 @@ fn flash_product<P: Port, S: Sink>(
 }
 
 /// Installs the words' product on the device that the words' target stands for.
-#[tactic(auto, using(crate::proofs::HostLemmas::flashes))]
+#[tactic(auto, using(crate::proofs::HostLemmas::flashes, crate::proofs::TargetLemmas::stays))]
 fn flash_all<D: ProductDir, P: Port, S: Sink>(
     alloc: Global,
     words: &FlashAll<'_>,
@@ -127,6 +131,9 @@ fn flash_all<D: ProductDir, P: Port, S: Sink>(
     out: &mut S,
 ) -> Result<(), HostError>
     ensures success { OnOk result (Succeeds (text_of words.now) (D.files dir.old) (P.stands port.old) (P.peer port.new)) }
+    ensures turned { OnOk result (IsLast (P.stands port.new) (P.last port.new) (ImageAt words.now.image.now)) }
+    ensures run { IfErr result (λ e. TurnedBy (P.stands port.new) (P.last port.new) (ImageAt words.now.image.now) e) }
+    ensures others { KeepsOthers (Some (ImageAt words.now.image.now)) (P.stands port.old) (P.stands port.new) }
     ensures done { OnOk result (IsDone (words_outcome (text_of words.now) (D.told_path dir.old) (D.files dir.old) (P.stands port.old)) (S.text out.old) (S.text out.new)) }
     ensures quiet { IfErr result (λ e. QuietHost (words_outcome (text_of words.now) (D.told_path dir.old) (D.files dir.old) (P.stands port.old)) (S.text out.old) (S.text out.new) (Rose (P.faults port.old) (P.faults port.new)) e) }
     ensures why { IfErr result (λ e. WhyHost (text_of words.now).dir (words_outcome (text_of words.now) (D.told_path dir.old) (D.files dir.old) (P.stands port.old)) (Rose (D.faults dir.old) (D.faults dir.new)) (IsElsewhere (Some (text_of words.now)) (D.told_path dir.old)) (IsCut (P.faults port.old) (P.faults port.new) (P.ends port.old) (P.ends port.new)) (IsAbsent (Some (text_of words.now)) (P.stands port.old)) (Rose (P.faults port.old) (P.faults port.new)) (Rose (S.faults out.old) (S.faults out.new)) (IsUntold (Some (text_of words.now)) (P.stands port.old)) e) }
@@ -174,7 +181,7 @@ fn report<S: Sink>(alloc: Global, words: &FlashAll<'_>, error: &HostError, out: 
 }
 
 /// Does what the words ask for, and puts the last line.
-#[tactic(auto, using(crate::proofs::HostLemmas::ends))]
+#[tactic(auto, using(crate::proofs::HostLemmas::ends, crate::proofs::TargetLemmas::ended))]
 fn run_words<D: ProductDir, P: Port, S: Sink>(
     alloc: Global,
     words: &FlashAll<'_>,
@@ -183,6 +190,8 @@ fn run_words<D: ProductDir, P: Port, S: Sink>(
     out: &mut S,
 ) -> u8
     ensures success { result ≡ 0 → Succeeds (text_of words.now) (D.files dir.old) (P.stands port.old) (P.peer port.new) }
+    ensures turned { (result ≡ 0) ⊎ ((result ≡ 7) ⊎ (result ≡ 10)) → IsLast (P.stands port.new) (P.last port.new) (ImageAt words.now.image.now) }
+    ensures others { KeepsOthers (Some (ImageAt words.now.image.now)) (P.stands port.old) (P.stands port.new) }
     ensures usage { result ≢ 1 }
     ensures reported { Reports (words_outcome (text_of words.now) (D.told_path dir.old) (D.files dir.old) (P.stands port.old)) result (S.text out.old) (S.text out.new) (Rose (D.faults dir.old) (D.faults dir.new)) (IsCut (P.faults port.old) (P.faults port.new) (P.ends port.old) (P.ends port.new)) (Rose (P.faults port.old) (P.faults port.new)) (Rose (S.faults out.old) (S.faults out.new)) }
     ensures directory { result ≡ 3 → Rose (D.faults dir.old) (D.faults dir.new) ⊎ IsElsewhere (Some (text_of words.now)) (D.told_path dir.old) }
@@ -208,7 +217,7 @@ fn run_words<D: ProductDir, P: Port, S: Sink>(
 
 /// Runs fbflash: `words` are those of its command line without the program's name. Answers the
 /// status that the program ends with, and puts the lines that it prints into `out`.
-#[tactic(auto, using(crate::proofs::HostLemmas::mains))]
+#[tactic(auto, using(crate::proofs::HostLemmas::mains, crate::proofs::TargetLemmas::stays))]
 pub fn host_main<D: ProductDir, P: Port, S: Sink>(
     alloc: Global,
     words: &[String],
@@ -217,6 +226,8 @@ pub fn host_main<D: ProductDir, P: Port, S: Sink>(
     out: &mut S,
 ) -> u8
     ensures success { result ≡ 0 → Installs (host_words (map string_bytes words.now)) (D.files dir.old) (P.stands port.old) (P.peer port.new) }
+    ensures turned { (result ≡ 0) ⊎ ((result ≡ 7) ⊎ (result ≡ 10)) → IsTurned (host_words (map string_bytes words.now)) (P.stands port.new) (P.last port.new) }
+    ensures others { KeepsBeside (host_words (map string_bytes words.now)) (P.stands port.old) (P.stands port.new) }
     ensures usage { result ≡ 1 → host_words (map string_bytes words.now) ≡ None }
     ensures refused { host_words (map string_bytes words.now) ≡ None → (result ≡ 1) ⊎ ((result ≡ 9) × Rose (S.faults out.old) (S.faults out.new)) }
     ensures reported { Reports (outcome_of (host_words (map string_bytes words.now)) (D.told_path dir.old) (D.files dir.old) (P.stands port.old)) result (S.text out.old) (S.text out.new) (Rose (D.faults dir.old) (D.faults dir.new)) (IsCut (P.faults port.old) (P.faults port.new) (P.ends port.old) (P.ends port.new)) (Rose (P.faults port.old) (P.faults port.new)) (Rose (S.faults out.old) (S.faults out.new)) }

@@ -20,5 +20,6 @@ mod plain_state;
 pub mod plan;
 pub mod product;
 pub mod questions;
+pub mod rehearsal;
 pub mod run;
 pub mod size;

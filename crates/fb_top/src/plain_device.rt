@@ -1,5 +1,6 @@
 ghost use Rattle.std.specs.Int.{next_multiple_of};
-ghost use Rattle.std.specs.Prelude.{◌≡◌, ℕ, ◌+◌, ◌-◌, ◌%◌, ◌<◌, ◌≤◌, ◌^◌, List, ◌++◌, length, take, drop, map, replicate, vec_len};
+ghost use Rattle.std.specs.Prelude.{◌≡◌, ℕ, ◌+◌, ◌-◌, ◌%◌, ◌<◌, ◌≤◌, ◌^◌, List, ◌++◌, Some, length, take, drop, map, replicate, vec_len};
+ghost use Rattle.fb_top.specs.PlainFronts.{front_of};
 
 use crate::plain_layout::PlainLayout;
 use dev_model::device::Mode;
@@ -8,7 +9,8 @@ use dev_model::device::Mode;
 pub const FRONT: usize = 12_288;
 
 /// A device of one partition: its layout, whether it is locked, what it runs, and its image in bytes,
-/// with the partition behind the first 12,288.
+/// which begin with the layout's text and the record of the lock, with the partition behind the first
+/// 12,288.
 #[derive(Debug, Drop)]
 pub struct PlainDevice {
     pub layout: PlainLayout,
@@ -17,6 +19,7 @@ pub struct PlainDevice {
     pub image: Vec<u8>,
     ghost whole: { vec_len image ≡ 12288 + layout.size },
     ghost blocks: { layout.size % 4096 ≡ 0 },
+    ghost front: { front_of (take 12288 image.items) ≡ Some (layout, locked) },
 }
 
 impl PlainDevice {
@@ -29,6 +32,7 @@ impl PlainDevice {
     pub fn new(layout: PlainLayout, locked: bool, image: Vec<u8>) -> PlainDevice
         requires whole { vec_len image ≡ 12288 + layout.size }
         requires blocks { layout.size % 4096 ≡ 0 }
+        requires front { front_of (take 12288 image.items) ≡ Some (layout, locked) }
         ensures dev { dev_of result ≡ plain_dev layout locked Bootloader (drop 12288 image.items) }
         ensures image { result.image.items ≡ image.items }
         ensures layout { result.layout ≡ layout }

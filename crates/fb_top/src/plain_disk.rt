@@ -4,13 +4,14 @@ ghost use Rattle.fb_frame.specs.Causes.{HasCause, Rose};
 ghost use Rattle.dev_model.specs.declared.device.Mode.TheVariants.{Halted};
 ghost use Rattle.dev_model.specs.Partitions.{with_mode};
 ghost use Rattle.dev_disk.specs.Calls.{IsOpen};
-ghost use Rattle.dev_disk.specs.Files.{KeepsUnopened};
+ghost use Rattle.dev_disk.specs.Files.{KeepsUnopened, Wrote, content};
 ghost use Rattle.wire_model.specs.Peers.{Apart};
 ghost use Rattle.wire_model.specs.Places.{ImageAt, Nothing, Aims, IsBad};
 ghost use Rattle.wire_model.specs.Told.{IsLeft};
 ghost use Rattle.wire_model.specs.Turns.{IsTurn};
 ghost use Rattle.wire_model.specs.Wire.{after};
 ghost use Rattle.fb_top.specs.PlainDevices.{dev_of};
+ghost use Rattle.fb_top.specs.PlainDisks.{IsImage};
 ghost use Rattle.fb_top.specs.PlainPeers.{state_of};
 ghost use Rattle.fb_top.specs.PlainStand.{plain_stands, IsFileOf};
 ghost use Rattle.fb_top.specs.PlainTurns.{is_answered};
@@ -56,6 +57,7 @@ pub fn open_device<K: Disk>(
     path: &str,
 ) -> Result<PlainDevice, AimError>
     ensures aims { IfOk result (λ device. Aims (plain_stands (K.files disk.old)) (ImageAt path.now) (Some (Apart (dev_of device)))) }
+    ensures image { IfOk result (λ device. IsImage (content (K.files disk.new) (K.open_path disk.new)) device.image.items) }
     ensures length { IfOk result (λ device. K.open_length disk.new ≡ Some (vec_len device.image)) }
     ensures path { OnOk result (IsOpen (K.files disk.old) (K.open_path disk.new) path.now) }
     ensures nothing { IsErrOf result AimError.NoTarget → plain_stands (K.files disk.old) (ImageAt path.now) ≡ Some Nothing }
@@ -74,6 +76,7 @@ pub fn open_device<K: Disk>(
 /// Writes the partition to the open file, and waits until it is kept.
 fn store<K: Disk>(disk: &mut K, device: &PlainDevice) -> Result<(), DiskFault>
     requires { K.open_length disk.old ≡ Some (vec_len device.now.image) }
+    ensures wrote { OnOk result (Wrote (content (K.files disk.old) (K.open_path disk.old)) (content (K.files disk.new) (K.open_path disk.new)) 12288 (drop 12288 device.now.image.items)) }
     ensures length { K.open_length disk.new ≡ K.open_length disk.old }
     ensures path { K.open_path disk.new ≡ K.open_path disk.old }
     ensures others { KeepsUnopened (K.files disk.old) (K.files disk.new) (K.open_path disk.old) }
@@ -92,6 +95,7 @@ pub fn send_to<K: Disk>(
     bytes: &[u8],
 ) -> Result<usize, LinkFault>
     requires stored { K.open_length disk.old ≡ Some (vec_len peer.old.device.image) }
+    requires held { IsImage (content (K.files disk.old) (K.open_path disk.old)) peer.old.device.image.items }
     requires up { peer.old.up ≡ true }
     requires turn { IsTurn is_answered bytes.now (state_of peer.old) }
     ensures within { IfOk result (λ n. n ≤ length bytes.now) }
@@ -101,6 +105,8 @@ pub fn send_to<K: Disk>(
     ensures sent { IfOk result (λ n. state_of peer.new ≡ after (state_of peer.old) (take n bytes.now)) }
     ensures left { OnErr result (IsLeft (Rose (K.faults disk.old) (K.faults disk.new)) bytes.now (state_of peer.old) (dev_of peer.new.device)) }
     ensures stored { K.open_length disk.new ≡ Some (vec_len peer.new.device.image) }
+    ensures held { OnOk result (IsImage (content (K.files disk.new) (K.open_path disk.new)) peer.new.device.image.items) }
+    ensures halted { OnErr result (peer.new.device.mode ≡ Halted) }
     ensures path { K.open_path disk.new ≡ K.open_path disk.old }
     ensures others { KeepsUnopened (K.files disk.old) (K.files disk.new) (K.open_path disk.old) }
     ensures cause { HasCause (K.faults disk.old) (K.faults disk.new) result }

@@ -1,4 +1,5 @@
-ghost use Rattle.std.specs.Prelude.{◌≡◌, ℕ, ◌+◌, List, length, drop, vec_len, IfOk};
+ghost use Rattle.std.specs.Prelude.{◌≡◌, ℕ, ◌+◌, List, Some, length, take, drop, vec_len, IfOk};
+ghost use Rattle.fb_top.specs.PlainFronts.{front_of};
 ghost use Rattle.fb_top.specs.PlainStand.{stand_of, found_stand, IsLayout};
 ghost use Rattle.dev_model.specs.declared.device.Mode.TheVariants.{Bootloader};
 ghost use Rattle.fb_top.specs.PlainDevices.{plain_dev, dev_of};
@@ -14,6 +15,7 @@ pub fn read_image(image: &[u8]) -> Result<(PlainLayout, bool), BadImage>
     ensures found { found_stand result image.now ≡ stand_of image.now }
     ensures layout { IfOk result (λ found. IsLayout found.0) }
     ensures size { IfOk result (λ found. length image.now ≡ 12288 + found.0.size) }
+    ensures front { IfOk result (λ found. front_of (take 12288 image.now) ≡ Some found) }
 {
     if image.len() < 12_288 {
         return Err(BadImage::ShortFile);

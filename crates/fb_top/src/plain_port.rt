@@ -1,7 +1,6 @@
-ghost use Rattle.std.specs.Prelude.{◌≡◌, ℕ, true, false, None, Some, option_map, is_some, IsTrue};
-ghost use Rattle.fb_top.specs.PlainDisks.{is_open_for};
-ghost use Rattle.fb_top.specs.PlainPeers.{peer_of};
-ghost use Rattle.wire_model.specs.Peers.{device_of};
+ghost use Rattle.std.specs.Prelude.{◌≡◌, ℕ, true, false, None, Some, option_map, is_some, IsTrue, IsFalse};
+ghost use Rattle.dev_disk.specs.Files.{content};
+ghost use Rattle.fb_top.specs.PlainDisks.{is_open_for, is_held};
 
 use crate::plain_disk::{open_device, send_to};
 use crate::plain_hear::give;
@@ -19,11 +18,23 @@ pub struct PlainPort<K: Disk> {
     peer: Option<PlainPeer>,
     ends: u64,
     ghost stored: { IsTrue (is_open_for (K.open_length disk) peer) },
+    ghost held: { IsTrue (is_held (content (K.files disk) (K.open_path disk)) peer) },
 }
 
 impl<K: Disk> PlainPort<K> {
+    ghost use Rattle.wire_model.specs.Peers.{device_of};
+    ghost use Rattle.fb_top.specs.PlainDisks.{Holds};
+    ghost use Rattle.fb_top.specs.PlainStand.{plain_stands};
+
     /// A port that isn't aimed.
-    pub fn new(disk: K) -> PlainPort<K> {
+    pub fn new(disk: K) -> PlainPort<K>
+        ensures aimed { IsFalse (⟦<PlainPort<K> as Port>⟧.aimed result) }
+        ensures up { IsFalse (⟦<PlainPort<K> as Port>⟧.up result) }
+        ensures peer { ⟦<PlainPort<K> as Port>⟧.peer result ≡ None }
+        ensures stands { ⟦<PlainPort<K> as Port>⟧.stands result ≡ plain_stands (K.files disk) }
+        ensures faults { ⟦<PlainPort<K> as Port>⟧.faults result ≡ K.faults disk }
+        ensures ends { ⟦<PlainPort<K> as Port>⟧.ends result ≡ 0 }
+    {
         PlainPort {
             disk,
             peer: None,
@@ -33,7 +44,7 @@ impl<K: Disk> PlainPort<K> {
 
     /// The mode of the device that the port is aimed at.
     pub fn mode(&self) -> Option<Mode>
-        ensures { result ≡ option_map (λ peer. (device_of peer).mode) (peer_of self.now.peer) }
+        ensures { result ≡ option_map (λ peer. (device_of peer).mode) (⟦<PlainPort<K> as Port>⟧.peer self.now) }
     {
         match &self.peer {
             None => None,
@@ -41,14 +52,26 @@ impl<K: Disk> PlainPort<K> {
         }
     }
 
-    /// The disk of the port.
-    pub fn into_disk(self) -> K {
+    /// How often the device ended its connection in place of an answer.
+    pub fn ends(&self) -> u64
+        ensures { result ≡ ⟦<PlainPort<K> as Port>⟧.ends self.now }
+    {
+        self.ends
+    }
+
+    /// The disk of the port. The file of the last target stands for the port's device, unless that one
+    /// halted.
+    pub fn into_disk(self) -> K
+        ensures stands { plain_stands (K.files result) ≡ ⟦<PlainPort<K> as Port>⟧.stands self }
+        ensures faults { K.faults result ≡ ⟦<PlainPort<K> as Port>⟧.faults self }
+        ensures holds { Holds (⟦<PlainPort<K> as Port>⟧.stands self) (⟦<PlainPort<K> as Port>⟧.last self) (⟦<PlainPort<K> as Port>⟧.peer self) }
+    {
         self.disk
     }
 }
 
 impl<K: Disk> Port for PlainPort<K> {
-    ghost use Rattle.fb_top.specs.PlainPeers.{is_up};
+    ghost use Rattle.fb_top.specs.PlainPeers.{peer_of, is_up};
     ghost use Rattle.fb_top.specs.PlainStand.{plain_stands};
     ghost use Rattle.fb_top.specs.PlainTurns.{is_answered};
     ghost use Rattle.wire_model.specs.Places.{ImageAt};

@@ -47,3 +47,17 @@ returns-else-next_multiple_of-device-clause-text c =
     flash_taken d.layout d.locked d.mode (drop 12288 d.image.items) c.args.name.now line.loaded line.got.items c.if-device.false c.if-not-line.false
     (not_unequal _ c.ne.result c.ne.ensures c.if-ne.false) c.requires.raw (omega (arith, some, line.got.ok.0)) (omega (arith, most, line.got.ok.0)) (round_up_le (length line.got.items))
     (omega (arith, size, end, c.if-next_multiple_of-device.false))
+
+pub returns-else-next_multiple_of-device-clause-taken : goal.returns-else-next_multiple_of-device-clause-taken
+returns-else-next_multiple_of-device-clause-taken c =
+    let d = c.args.device.now in
+    let line = c.args.line.now in
+    let count : 0 < line.got.len = some_of line.got.len c.is_empty.result c.is_empty.ensures c.if-is_empty.false in
+    let end : c.next_multiple_of.result ≡ round_up (length line.got.items) = c.next_multiple_of.ensures.value ∙ ap round_up (c.len.ensures ∙ line.got.ok.0) in
+    record {
+      unlocked = c.if-device.false;
+      loaded = c.if-not-line.false;
+      named = not_unequal _ c.ne.result c.ne.ensures c.if-ne.false;
+      some = omega (arith, count, line.got.ok.0);
+      fits = omega (arith, end, c.if-next_multiple_of-device.false);
+    }

@@ -1,6 +1,9 @@
 use Rattle.fb_frame.specs.Causes.{Rose}
 use Rattle.fb_top.specs.PlainPeers.{state_of}
+use Rattle.std.proofs.Common.{◌≡◌, length, sym, arith}
+use Rattle.dev_disk.specs.Files.{content}
 use Rattle.fb_top.proofs.PlainFiles.{keeps_same, left_halted}
+use Rattle.fb_top.proofs.PlainHeld.{image_written}
 use Rattle.fb_top.proofs.plain_disk.send_to.Goals as goal
 
 pub returns-in_default-clause-left : goal.returns-in_default-clause-left
@@ -10,3 +13,11 @@ returns-in_default-clause-left g c =
 
 pub returns-else-taken-clause-others : goal.returns-else-taken-clause-others
 returns-else-taken-clause-others g c = keeps_same (g.K.Disk.files c.args.disk.now) (g.K.Disk.open_path c.args.disk.now)
+
+pub returns-in-Ok-clause-held : goal.returns-in-Ok-clause-held
+returns-in-Ok-clause-held g c =
+    let old = c.args.peer.now.device.image in
+    let new = c.take-taken.new.self.device.image in
+    let size : length new.items ≡ length old.items = omega (arith, old.ok.0, new.ok.0, c.take-taken.ensures.size) in
+    image_written (content (g.K.Disk.files c.args.disk.now) (g.K.Disk.open_path c.args.disk.now)) (content (g.K.Disk.files c.store.new.disk) (g.K.Disk.open_path c.store.new.disk))
+    old.items new.items c.requires.held size c.take-taken.ensures.kept.front c.in-Ok.ensures.wrote

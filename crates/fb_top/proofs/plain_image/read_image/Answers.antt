@@ -1,6 +1,7 @@
 use Rattle.std.proofs.Common.{◌≡◌, ◌+◌, ◌^◌, ◌≤◌, length, take, drop, sym, ◌∙◌, arith}
 use Rattle.fb_top.proofs.PlainLists.{front_length}
 use Rattle.fb_top.proofs.PlainLayouts.{layout_fact, size_most, found_device, found_no_state}
+use Rattle.fb_top.proofs.PlainHeld.{front_found}
 use Rattle.fb_top.proofs.plain_image.read_image.Goals as goal
 
 pub slice_bounds-read_layout-end : goal.slice_bounds-read_layout-end
@@ -21,3 +22,6 @@ returns-clause-found c =
 
 pub returns-clause-layout : goal.returns-clause-layout
 returns-clause-layout c = layout_fact _ c.in-Some.layout c.in-Some.ensures
+
+pub returns-clause-front : goal.returns-clause-front
+returns-clause-front c = front_found c.args.image.now c.in-Some.layout c.in-Some-read_state.locked c.in-Some.ensures c.in-Some-read_state.ensures

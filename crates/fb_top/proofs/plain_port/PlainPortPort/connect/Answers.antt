@@ -3,18 +3,23 @@ use Rattle.wire_model.specs.Told.{HungUp}
 use Rattle.fb_top.specs.declared.plain_device.PlainDevice.{PlainDevice}
 use Rattle.fb_top.specs.declared.plain_peer.PlainPeer.{PlainPeer}
 use Rattle.fb_top.specs.PlainDevices.{dev_of}
-use Rattle.fb_top.specs.PlainDisks.{is_open_for}
+use Rattle.fb_top.specs.PlainDisks.{is_open_for, is_held}
 use Rattle.fb_top.specs.PlainPeers.{peer_of, told_by, state_of}
+use Rattle.dev_disk.specs.Files.{content}
 use Rattle.fb_top.proofs.PlainFiles.{open_known, open_so, hung_if}
+use Rattle.fb_top.proofs.PlainHeld.{connect_held}
 use Rattle.fb_top.proofs.plain_port.PlainPortPort.connect.Goals as goal
 
 pub invariant_of-self : goal.invariant_of-self
 invariant_of-self g c =
     let size = g.K.Disk.open_length c.args.self.now.disk in
+    let file = content (g.K.Disk.files c.args.self.now.disk) (g.K.Disk.open_path c.args.self.now.disk) in
     let p = c.in-Some.peer in
     record {
       stored = open_so size c.connect.new.self
           (open_known size p (sym (ap (is_open_for size) c.in-Some.is) ∙ c.args.self.now.stored) ∙ ap (λ (d : PlainDevice). Some d.image.len) (sym c.connect.ensures.device));
+      held = connect_held file p c.connect.new.self c.connect.result c.connect.ensures.device c.connect.ensures.may c.connect.ensures.down
+          (sym (ap (is_held file) c.in-Some.is) ∙ c.args.self.now.held);
     }
 
 pub returns-in_default-connect-clause-left : goal.returns-in_default-connect-clause-left

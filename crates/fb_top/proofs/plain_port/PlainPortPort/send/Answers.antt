@@ -4,15 +4,30 @@ use Rattle.wire_model.specs.Places.{ImageAt}
 use Rattle.wire_model.specs.Told.{Sent}
 use Rattle.fb_top.specs.declared.plain_peer.PlainPeer.{PlainPeer}
 use Rattle.fb_top.specs.PlainDevices.{dev_of}
-use Rattle.fb_top.specs.PlainDisks.{is_open_for}
+use Rattle.fb_top.specs.PlainDisks.{is_open_for, is_held}
 use Rattle.fb_top.specs.PlainPeers.{peer_of, told_by, state_of, is_up}
-use Rattle.fb_top.proofs.PlainFiles.{open_known, sent_if, stands_kept}
+use Rattle.dev_disk.specs.Files.{content}
+use Rattle.fb_top.proofs.PlainFiles.{open_known, open_so, sent_if, stands_kept}
+use Rattle.fb_top.proofs.PlainHeld.{up_held, sent_held}
 use Rattle.fb_top.proofs.plain_port.PlainPortPort.send.Goals as goal
 
 pub send_to-requires-clause-stored : goal.send_to-requires-clause-stored
 send_to-requires-clause-stored g c =
     let size = g.K.Disk.open_length c.args.self.now.disk in
     open_known size c.in-Some.peer (sym (ap (is_open_for size) c.in-Some.is) ∙ c.args.self.now.stored)
+
+pub send_to-requires-clause-held : goal.send_to-requires-clause-held
+send_to-requires-clause-held g c =
+    let file = content (g.K.Disk.files c.args.self.now.disk) (g.K.Disk.open_path c.args.self.now.disk) in
+    up_held file c.in-Some.peer (sym (ap is_up c.in-Some.is) ∙ c.requires.up) (sym (ap (is_held file) c.in-Some.is) ∙ c.args.self.now.held)
+
+pub invariant_of-self : goal.invariant_of-self
+invariant_of-self g c =
+    let n = c.send_to.new in
+    record {
+      stored = open_so (g.K.Disk.open_length n.disk) n.peer c.send_to.ensures.stored;
+      held = sent_held (content (g.K.Disk.files n.disk) (g.K.Disk.open_path n.disk)) n.peer c.send_to.result c.send_to.ensures.held c.send_to.ensures.down c.send_to.ensures.halted;
+    }
 
 pub returns-in_err-count-clause-kept : goal.returns-in_err-count-clause-kept
 returns-in_err-count-clause-kept g c = record {
