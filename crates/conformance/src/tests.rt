@@ -7,6 +7,7 @@ use fb_top::plain_port::PlainPort;
 use fb_top::rehearsal::rehearse;
 use flash_plan::memory_dir::{DirFile, MemoryDir};
 use std::alloc::{AllocError, Global};
+use std::process::Abort;
 use std::test::Fail;
 
 const LAYOUT: &[u8; 87] =
@@ -130,7 +131,10 @@ fn rehearses_one_raw_image(rt: HostRuntime) -> Result<(), Fail> {
     let done = rehearse(alloc, words.as_slice(), &mut dir, disk, &mut out);
     assert_eq!(rt; done.status, 0);
     assert_eq!(rt; done.ends, 0);
-    assert_eq!(rt; out.text(), b"flash boot 4096\nreboot system\ndone 2\n".as_slice());
+    assert_eq!(rt;
+        out.text(),
+        b"flash boot 4096\nreboot system\ndone 2\n".as_slice()
+    );
     let after = device(alloc, 0, &image)?;
     let other = device(alloc, 1, b"")?;
     assert!(rt; done.disk.file("dev.img") == Some(after.as_slice()));
@@ -205,5 +209,64 @@ fn leaves_a_locked_device(rt: HostRuntime) -> Result<(), Fail> {
     assert_eq!(rt; done.status, 7);
     assert_eq!(rt; done.text.as_slice(), b"error refused locked\n".as_slice());
     assert_eq!(rt; done.file.as_slice(), device(alloc, 1, b"")?.as_slice());
+    Ok(())
+}
+
+/// The product of one flash of a partition, by the text of its tasks and the name of its image.
+fn one_flash(alloc: Global, tasks: &[u8], image: &str) -> Result<Vec<DirFile>, AllocError> {
+    let mut files = Vec::new(alloc);
+    files.push(file(alloc, "android-info.txt", b"")?)?;
+    files.push(file(alloc, "fastboot-info.txt", tasks)?)?;
+    files.push(file(alloc, image, b"1")?)?;
+    Ok(files)
+}
+
+/// Rehearses the flash of a one-byte image, which is to be refused with this line.
+fn refuses(
+    rt: &impl Abort,
+    alloc: Global,
+    files: Vec<DirFile>,
+    image: &[u8],
+    status: u8,
+    line: &[u8],
+) -> Result<(), Fail> {
+    let words = words(alloc, &FLASHALL)?;
+    let mut disk = MemoryDisk::new(alloc, Vec::new(alloc))?;
+    disk.add(alloc, "dev.img", image)?;
+    let mut dir = MemoryDir::new(alloc, "product", files, Vec::new(alloc))?;
+    let mut out = MemorySink::new(alloc, 1000)?;
+    let done = rehearse(alloc, words.as_slice(), &mut dir, disk, &mut out);
+    assert_eq!(rt; done.status, status);
+    assert_eq!(rt; out.text(), line);
+    assert!(rt; done.disk.file("dev.img") == Some(image));
+    Ok(())
+}
+
+#[test]
+fn refuses_a_plan_and_an_image(rt: HostRuntime) -> Result<(), Fail> {
+    let alloc = rt.alloc();
+    let whole = device(alloc, 0, b"")?;
+    let mut long = device(alloc, 0, b"")?;
+    long.push(0)?;
+    let spoilt = device(alloc, 2, b"")?;
+    let xyz = one_flash(alloc, b"version 1\nflash xyz\n", "xyz.img")?;
+    refuses(
+        &rt,
+        alloc,
+        xyz,
+        whole.as_slice(),
+        10,
+        b"error plan line 2 NoPartition\n",
+    )?;
+    let cases: [(&[u8], &[u8]); 4] = [
+        (&[0; 100], b"error device ShortFile\n"),
+        (&[0; 12_288], b"error device BadLayout\n"),
+        (long.as_slice(), b"error device BadLength\n"),
+        (spoilt.as_slice(), b"error device BadState\n"),
+    ];
+    for (image, line) in cases {
+        let boot = one_flash(alloc, b"version 1\nflash boot\n", "boot.img")?;
+        refuses(&rt, alloc, boot, image, 11, line)?;
+    }
     Ok(())
 }
