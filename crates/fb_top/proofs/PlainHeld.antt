@@ -4,7 +4,7 @@ use Rattle.std.specs.Prelude.{option_map, nat_eq, bytes_eq, IsTrue, if◌then◌
 use Rattle.std.proofs.lemmas.List.{take-take, drop-take, drop_all}
 use Rattle.std.proofs.lemmas.Slice.Eq.{bytes_eq-Decides}
 use Rattle.dev_disk.specs.Calls.{Agrees, IsFileOf, IsOpen}
-use Rattle.dev_disk.specs.Files.{Files, content, written, Wrote}
+use Rattle.dev_disk.specs.Files.{Files, content, written, Wrote, IsInside}
 use Rattle.dev_model.specs.declared.device.Dev.{Dev}
 use Rattle.dev_model.specs.declared.device.Mode.{Mode}
 use Rattle.dev_model.specs.declared.device.Mode.TheVariants.{System, Bootloader, Userspace, Recovery, Halted}
@@ -66,6 +66,10 @@ pub image_read : (files : Option Files) (opened : Option (List ℕ)) (path bytes
 unfolding content
 image_read None opened path bytes o f = tt
 image_read (Some files) opened path bytes o f = subst (λ q. IsImage (content (Some files) q) bytes) (sym o) (subst (λ t. IsImage t bytes) (sym f) refl)
+
+-- a range of a file of a known length
+pub inside_of : (size : Option ℕ) (len at count : ℕ) → size ≡ Some len → at + count ≤ len → IsInside size at count
+inside_of size len at count e h = subst (λ o. IsInside o at count) (sym e) h
 
 -- the open file is the image when its part behind the front was written
 written_whole : (old new : List ℕ) → length new ≡ length old → take 12288 new ≡ take 12288 old → written old 12288 (drop 12288 new) ≡ new
