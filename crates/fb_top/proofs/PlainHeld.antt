@@ -1,6 +1,6 @@
 -- What a plain port's disk holds of its device.
-use Rattle.std.proofs.Common.{◌≡◌, ◌≢◌, ℕ, ◌+◌, ◌-◌, ◌<◌, ◌≤◌, Bool, true, false, not, ◌||◌, Option, Some, None, List, [], ◌++◌, length, take, drop, refl, sym, ap, ◌∙◌, subst, arith, append-nil, take-append-drop, length-drop}
-use Rattle.std.specs.Prelude.{option_map, nat_eq, bytes_eq, IsTrue, if◌then◌else◌, Result, Ok, Err, OnOk, OnErr}
+use Rattle.std.proofs.Common.{◌≡◌, ◌≢◌, ℕ, ◌+◌, ◌≤◌, Bool, true, false, not, ◌||◌, Option, Some, None, List, ◌++◌, length, take, drop, refl, sym, ap, ◌∙◌, subst, arith, append-nil, take-append-drop, length-drop}
+use Rattle.std.specs.Prelude.{option_map, bytes_eq, if◌then◌else◌, Result, Ok, Err, OnOk, OnErr}
 use Rattle.std.proofs.lemmas.List.{take-take, drop-take, drop_all}
 use Rattle.std.proofs.lemmas.Slice.Eq.{bytes_eq-Decides}
 use Rattle.dev_disk.specs.Calls.{Agrees, IsFileOf, IsOpen}
@@ -10,14 +10,14 @@ use Rattle.dev_model.specs.declared.device.Mode.{Mode}
 use Rattle.dev_model.specs.declared.device.Mode.TheVariants.{System, Bootloader, Userspace, Recovery, Halted}
 use Rattle.dev_model.specs.Partitions.{with_mode, is_fastboot}
 use Rattle.fb_link.specs.declared.port.LinkFault.{LinkFault}
-use Rattle.wire_model.specs.Peers.{Peer, Apart, Joined, device_of}
-use Rattle.wire_model.specs.Places.{Place, ImageAt, Stand, Device, Nothing}
+use Rattle.wire_model.specs.Peers.{Apart, Joined, device_of}
+use Rattle.wire_model.specs.Places.{ImageAt, Device}
 use Rattle.wire_model.specs.Wire.{Wire}
 use Rattle.fb_top.specs.declared.plain_device.PlainDevice.{PlainDevice}
 use Rattle.fb_top.specs.declared.plain_layout.PlainLayout.{PlainLayout}
 use Rattle.fb_top.specs.declared.plain_peer.PlainPeer.{PlainPeer}
-use Rattle.fb_top.specs.PlainDevices.{dev_of, plain_dev}
-use Rattle.fb_top.specs.PlainDisks.{is_open_for, IsImage, is_stopped, is_held, stand_at, HoldsBy, Holds}
+use Rattle.fb_top.specs.PlainDevices.{dev_of}
+use Rattle.fb_top.specs.PlainDisks.{IsImage, is_stopped, is_held, HoldsBy, Holds}
 use Rattle.fb_top.specs.PlainFronts.{front_of}
 use Rattle.fb_top.specs.PlainLayout.{both, layout_of}
 use Rattle.fb_top.specs.PlainPeers.{state_of, told_by, peer_of}

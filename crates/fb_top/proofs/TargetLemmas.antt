@@ -1,8 +1,6 @@
 -- What stays of a port's places in a whole run of fbflash.
 use Rattle.std.proofs.Common.{◌≡◌, ◌≢◌, Bool, Option, Some, None, refl, sym, ap, ◌∙◌, subst}
-use Rattle.wire_model.specs.Places.{Place, ImageAt, Stand, Stands, LastBy, IsLast, KeepsOthers, IsKept}
-use Rattle.fb_top.specs.HostWords.{FlashAllText}
-use Rattle.fb_top.specs.Targets.{IsTurned, KeepsBeside}
+use Rattle.wire_model.specs.Places.{Place, Stand, Stands, LastBy, IsLast, KeepsOthers, IsKept}
 
 -- a place that isn't the target isn't the last one that is told
 not_last : (stand : Option Stand) (last : Option Place) (place other : Place) → LastBy stand last place → Some place ≢ Some other → last ≢ Some other
