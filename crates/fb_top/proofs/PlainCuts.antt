@@ -1,13 +1,13 @@
 -- Bytes up to the end of what is awaited: what stands at their front, and where they lead.
-use Rattle.std.proofs.Common.{◌≡◌, ◌≢◌, ◌⊎◌, inl, inr, ℕ, ◌+◌, ◌-◌, ◌^◌, ◌<◌, ◌≤◌, Bool, true, false, cond, Option, Some, None, List, [], ◌∷◌, ◌++◌, length, take, drop, refl, sym, ap, ◌∙◌, subst, arith, append_assoc, length-append, length-drop, length-take, take-append-drop}
-use Rattle.std.specs.Prelude.{nat_lt, nat_le, nat_eq, is_none, not, ◌&&◌, ◌||◌, IsTrue, IsFalse, if◌then◌else◌}
+use Rattle.std.proofs.Common.{◌≡◌, ◌≢◌, ◌⊎◌, inl, inr, ℕ, ◌+◌, ◌-◌, ◌^◌, ◌<◌, ◌≤◌, Bool, true, false, cond, Option, Some, None, List, [], ◌∷◌, ◌++◌, length, take, drop, refl, sym, ap, ◌∙◌, arith, append_assoc, length-append, length-drop}
+use Rattle.std.specs.Prelude.{nat_lt, nat_le, nat_eq, is_none, not, ◌&&◌, ◌||◌, if◌then◌else◌}
 use Rattle.std.specs.Int.{w64, from_be_bytes}
 use Rattle.std.proofs.lemmas.Bool.Decides.{nat_tests}
-use Rattle.std.proofs.lemmas.List.{take-append-le, take_all, drop_all, length-take-le}
+use Rattle.std.proofs.lemmas.List.{take-append-le, take_all, drop_all}
 use Rattle.fb_frame.specs.Framing.{announced, lacks_head, lacks_frame, first_payload, behind_frame}
 use Rattle.wire_model.specs.Wire as wire
 use Rattle.wire_model.specs.Wire.{Wire, Phase, Item, Greeting, Payload, first_frame, front, heard, joined, limited, after}
-use Rattle.wire_model.specs.Turns.{room, head_is_fine, heads_are_fine, length_is_fine, takes_empty, CommandTest, command_passes, commands_pass, front_passes, IsTurn, IsSettled}
+use Rattle.wire_model.specs.Turns.{room, head_is_fine, heads_are_fine, length_is_fine, takes_empty, CommandTest, command_passes, commands_pass, IsTurn, IsSettled}
 use Rattle.wire_model.proofs.AtLimit.{part_up_to, item_up_to}
 use Rattle.wire_model.proofs.InParts.{heard-placed, whole-front}
 use Rattle.wire_model.proofs.Turned.{heads-at, commands-at}

@@ -1,6 +1,6 @@
 -- What a plain port's disk tells of its device.
-use Rattle.std.proofs.Common.{◌≡◌, ◌≢◌, inl, inr, ℕ, ◌+◌, ◌<◌, ◌≤◌, Bool, true, false, Option, Some, None, List, [], ◌++◌, length, take, drop, refl, sym, ap, ◌∙◌, subst, arith}
-use Rattle.std.specs.Prelude.{option_map, nat_eq, if◌then◌else◌, IsTrue}
+use Rattle.std.proofs.Common.{◌≡◌, ◌≢◌, inl, inr, ℕ, ◌≤◌, Bool, true, false, Option, Some, None, List, ◌++◌, length, take, refl, sym, ap, ◌∙◌, subst, arith}
+use Rattle.std.specs.Prelude.{option_map, nat_eq, if◌then◌else◌}
 use Rattle.std.proofs.Math.Seq.{take-append_seam}
 use Rattle.std.proofs.lemmas.List.{take_all}
 use Rattle.std.proofs.lemmas.Bool.Decides.{nat_tests}
@@ -11,7 +11,7 @@ use Rattle.dev_model.specs.declared.bad_image.BadImage.{BadImage}
 use Rattle.dev_model.specs.declared.device.Dev.{Dev}
 use Rattle.dev_model.specs.Validity.{IsValid}
 use Rattle.wire_model.specs.Halts.{Goes}
-use Rattle.wire_model.specs.Peers.{Peer, Apart, Joined, device_of, OfLink, OnLink, OffLink}
+use Rattle.wire_model.specs.Peers.{Apart, Joined, OfLink}
 use Rattle.wire_model.specs.Places as place
 use Rattle.wire_model.specs.Places.{Place, ImageAt, TcpAt, Stand, Device, Bad, Nothing, Aims, IsBad}
 use Rattle.wire_model.specs.Told.{MayConnect, Sent, GoesBy, IsLeft, LeftBy, Heard, HungUp, Connected}

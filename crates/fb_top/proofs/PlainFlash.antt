@@ -1,12 +1,11 @@
 -- A flash of a raw file on a device with one partition.
-use Rattle.std.proofs.Common.{◌≡◌, ℕ, ◌+◌, ◌-◌, ◌^◌, ◌<◌, ◌≤◌, Bool, true, false, cond, List, [], ◌∷◌, ◌++◌, length, map, drop, take, replicate, Option, Some, None, refl, sym, ap, ◌∙◌, subst, arith, append_assoc, length-append}
-use Rattle.std.specs.Prelude.{codes, bytes_eq, if◌then◌else◌, nat_lt, nat_le, nat_eq, not, ◌||◌, ◌&&◌, unwrap_or, option_and_then, is_none, option_map, IsFalse, IsTrue, IfSome}
+use Rattle.std.proofs.Common.{◌≡◌, ℕ, ◌-◌, ◌^◌, ◌<◌, ◌≤◌, Bool, true, false, List, [], ◌∷◌, ◌++◌, length, map, drop, replicate, Option, Some, None, refl, sym, ap, ◌∙◌, subst, arith, length-append}
+use Rattle.std.specs.Prelude.{codes, bytes_eq, if◌then◌else◌, nat_lt, nat_eq, not, ◌||◌, ◌&&◌, unwrap_or, option_and_then, is_none, option_map, IfSome}
 use Rattle.std.specs.Option.{option_or}
 use Rattle.std.specs.List.{list_any}
 use Rattle.std.proofs.lemmas.Bool.Decides.{nat_tests}
 use Rattle.std.proofs.lemmas.List.{length-replicate, length-map}
-use Rattle.fb_message.specs.CommandText.{CommandValue, Flash}
-use Rattle.fb_message.specs.declared.reply.Reply.{Reply}
+use Rattle.fb_message.specs.CommandText.{Flash}
 use Rattle.fb_message.specs.declared.reply.Reply.TheVariants.{Okay, Fail}
 use Rattle.dev_model.specs.declared.cells.Cell.{Cell}
 use Rattle.dev_model.specs.declared.cells.Cell.TheVariants.{Byte, Skip}
@@ -17,12 +16,12 @@ use Rattle.dev_model.specs.declared.device.Physical.{Physical}
 use Rattle.dev_model.specs.declared.step.Step.TheVariants.{Put}
 use Rattle.dev_model.specs.Images.{image, over, is_sparse, round_up, raw_cells, sparse_cells}
 use Rattle.dev_model.specs.Options.{◌>>=◌, needs, first_passed}
-use Rattle.dev_model.specs.Partitions.{is_target, is_userspace, with_mode, with_bytes, bytes_of}
+use Rattle.dev_model.specs.Partitions.{is_target, is_userspace, with_mode, bytes_of}
 use Rattle.dev_model.specs.Refusals.{flash_refusal, is_too_large}
 use Rattle.dev_model.specs.Steps.{apply}
 use Rattle.wire_model.specs.FirstPath.{is_raw}
-use Rattle.wire_model.specs.Halts.{Halts, HaltsBy, IsHaltedUnder, DiffersUnder, is_fail}
-use Rattle.wire_model.specs.Says.{Loaded, Said, says, answers, decides, loaded_image}
+use Rattle.wire_model.specs.Halts.{Halts, DiffersUnder, is_fail}
+use Rattle.wire_model.specs.Says.{Loaded, says, answers, decides, loaded_image}
 use Rattle.fb_top.specs.declared.plain_layout.PlainLayout.{PlainLayout}
 use Rattle.fb_top.specs.PlainDevices.{plain_dev, padded_file}
 use Rattle.fb_top.specs.PlainWires.{loaded_of}

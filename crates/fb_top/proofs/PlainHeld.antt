@@ -1,23 +1,23 @@
 -- What a plain port's disk holds of its device.
-use Rattle.std.proofs.Common.{◌≡◌, ◌≢◌, ℕ, ◌+◌, ◌-◌, ◌<◌, ◌≤◌, Bool, true, false, not, ◌||◌, Option, Some, None, List, [], ◌++◌, length, take, drop, refl, sym, ap, ◌∙◌, subst, arith, append-nil, take-append-drop, length-drop}
-use Rattle.std.specs.Prelude.{option_map, nat_eq, bytes_eq, IsTrue, if◌then◌else◌, Result, Ok, Err, OnOk, OnErr}
+use Rattle.std.proofs.Common.{◌≡◌, ◌≢◌, ℕ, ◌+◌, ◌≤◌, Bool, true, false, not, ◌||◌, Option, Some, None, List, ◌++◌, length, take, drop, refl, sym, ap, ◌∙◌, subst, arith, append-nil, take-append-drop, length-drop}
+use Rattle.std.specs.Prelude.{option_map, bytes_eq, if◌then◌else◌, Result, Ok, Err, OnOk, OnErr}
 use Rattle.std.proofs.lemmas.List.{take-take, drop-take, drop_all}
 use Rattle.std.proofs.lemmas.Slice.Eq.{bytes_eq-Decides}
 use Rattle.dev_disk.specs.Calls.{Agrees, IsFileOf, IsOpen}
-use Rattle.dev_disk.specs.Files.{Files, content, written, Wrote}
+use Rattle.dev_disk.specs.Files.{Files, content, written, Wrote, IsInside}
 use Rattle.dev_model.specs.declared.device.Dev.{Dev}
 use Rattle.dev_model.specs.declared.device.Mode.{Mode}
 use Rattle.dev_model.specs.declared.device.Mode.TheVariants.{System, Bootloader, Userspace, Recovery, Halted}
 use Rattle.dev_model.specs.Partitions.{with_mode, is_fastboot}
 use Rattle.fb_link.specs.declared.port.LinkFault.{LinkFault}
-use Rattle.wire_model.specs.Peers.{Peer, Apart, Joined, device_of}
-use Rattle.wire_model.specs.Places.{Place, ImageAt, Stand, Device, Nothing}
+use Rattle.wire_model.specs.Peers.{Apart, Joined, device_of}
+use Rattle.wire_model.specs.Places.{ImageAt, Device}
 use Rattle.wire_model.specs.Wire.{Wire}
 use Rattle.fb_top.specs.declared.plain_device.PlainDevice.{PlainDevice}
 use Rattle.fb_top.specs.declared.plain_layout.PlainLayout.{PlainLayout}
 use Rattle.fb_top.specs.declared.plain_peer.PlainPeer.{PlainPeer}
-use Rattle.fb_top.specs.PlainDevices.{dev_of, plain_dev}
-use Rattle.fb_top.specs.PlainDisks.{is_open_for, IsImage, is_stopped, is_held, stand_at, HoldsBy, Holds}
+use Rattle.fb_top.specs.PlainDevices.{dev_of}
+use Rattle.fb_top.specs.PlainDisks.{IsImage, is_stopped, is_held, HoldsBy, Holds}
 use Rattle.fb_top.specs.PlainFronts.{front_of}
 use Rattle.fb_top.specs.PlainLayout.{both, layout_of}
 use Rattle.fb_top.specs.PlainPeers.{state_of, told_by, peer_of}
@@ -66,6 +66,10 @@ pub image_read : (files : Option Files) (opened : Option (List ℕ)) (path bytes
 unfolding content
 image_read None opened path bytes o f = tt
 image_read (Some files) opened path bytes o f = subst (λ q. IsImage (content (Some files) q) bytes) (sym o) (subst (λ t. IsImage t bytes) (sym f) refl)
+
+-- a range of a file of a known length
+pub inside_of : (size : Option ℕ) (len at count : ℕ) → size ≡ Some len → at + count ≤ len → IsInside size at count
+inside_of size len at count e h = subst (λ o. IsInside o at count) (sym e) h
 
 -- the open file is the image when its part behind the front was written
 written_whole : (old new : List ℕ) → length new ≡ length old → take 12288 new ≡ take 12288 old → written old 12288 (drop 12288 new) ≡ new

@@ -1,5 +1,5 @@
 -- Parts of a list, at places that are numerals in the code.
-use Rattle.std.proofs.Common.{◌≡◌, ℕ, ◌+◌, ◌-◌, ◌≤◌, List, ◌++◌, length, take, drop, sym, arith, length-take, length-drop}
+use Rattle.std.proofs.Common.{◌≡◌, ℕ, ◌-◌, ◌≤◌, List, length, take, drop, sym, arith, length-drop}
 use Rattle.std.proofs.lemmas.List.{length-take-le, take_all}
 
 -- a front has its length

@@ -1,7 +1,7 @@
 -- A write behind a place of a buffer.
-use Rattle.std.proofs.Common.{◌≡◌, ℕ, ◌+◌, ◌-◌, ◌≤◌, List, [], ◌++◌, length, map, take, drop, replicate, refl, sym, ap, ◌∙◌, subst, arith, append_assoc, append-nil, length-append, length-drop, length-take}
+use Rattle.std.proofs.Common.{◌≡◌, ℕ, ◌-◌, ◌≤◌, List, [], ◌++◌, length, map, take, drop, replicate, sym, ap, ◌∙◌, arith, append_assoc, append-nil, length-append, length-drop}
 use Rattle.std.proofs.Math.Seq.{take-append_seam, drop-append_seam}
-use Rattle.std.proofs.lemmas.List.{take_all, drop_all, drop-drop, length-take-le, length-replicate}
+use Rattle.std.proofs.lemmas.List.{take_all, drop_all, length-take-le, length-replicate}
 use borrow.Rule.Slice.PartMut.{post_of}
 use Rattle.dev_model.specs.declared.cells.Cell.TheVariants.{Byte}
 use Rattle.dev_model.specs.Images.{over, round_up}

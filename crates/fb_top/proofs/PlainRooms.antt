@@ -1,6 +1,5 @@
 -- What there is room for.
-use Rattle.std.proofs.Common.{◌≡◌, ℕ, ◌<◌, ◌≤◌, Bool, true, false, arith}
-use Rattle.std.specs.Prelude.{◌&&◌, nat_lt, nat_le}
+use Rattle.std.proofs.Common.{◌≡◌, ℕ, ◌≤◌, true, arith}
 use Rattle.std.proofs.lemmas.Bool.Decides.{nat_tests}
 use Rattle.fb_top.specs.declared.plain_stage.Stage.{Stage}
 use Rattle.fb_top.specs.declared.plain_stage.Stage.TheVariants.{Shake, Command, Data}

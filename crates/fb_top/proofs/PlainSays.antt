@@ -1,6 +1,6 @@
 -- What a device with one partition says to the commands of the first path, and where that leads.
-use Rattle.std.proofs.Common.{◌≡◌, ℕ, ◌+◌, ◌-◌, ◌<◌, ◌≤◌, Bool, true, false, cond, ◌≢◌, List, [], ◌∷◌, ◌++◌, length, map, drop, take, replicate, Option, Some, None, refl, sym, ap, ◌∙◌, subst, arith, append-nil, Decides}
-use Rattle.std.specs.Prelude.{codes, bytes_eq, if◌then◌else◌, nat_lt, nat_le, nat_eq, option_map, ◌||◌, ◌&&◌, ◌==◌}
+use Rattle.std.proofs.Common.{◌≡◌, ℕ, ◌<◌, Bool, true, false, cond, ◌≢◌, List, [], ◌∷◌, ◌++◌, length, drop, Option, Some, None, refl, sym, ap, ◌∙◌, subst, arith, append-nil}
+use Rattle.std.specs.Prelude.{codes, bytes_eq, if◌then◌else◌, nat_lt, nat_eq, ◌||◌, ◌&&◌, ◌==◌}
 use Rattle.std.specs.Option.{option_or}
 use Rattle.std.specs.Fmt.{digits}
 use Rattle.std.specs.List.{starts_with}
@@ -8,20 +8,19 @@ use Rattle.std.proofs.lemmas.Slice.Eq.{bytes_eq-Decides, starts_is}
 use Rattle.std.proofs.lemmas.Bool.Decides.{nat_tests, Decides-eqb}
 use Rattle.fb_frame.specs.Framing.{frame}
 use Rattle.fb_frame.specs.Numbers.{hex8}
-use Rattle.fb_message.specs.CommandText.{CommandValue, GetVar, Download, Flash, Reboot}
+use Rattle.fb_message.specs.CommandText.{GetVar, Download, Reboot}
 use Rattle.fb_message.specs.Prefixes.{behind_word}
 use Rattle.fb_message.specs.declared.command.BootTarget.{BootTarget}
 use Rattle.fb_message.specs.declared.reply.Reply.{Reply}
 use Rattle.fb_message.specs.declared.reply.Reply.TheVariants.{Okay, Fail, Load}
 use Rattle.dev_model.specs.declared.device.Mode.{Mode}
 use Rattle.dev_model.specs.declared.device.Dev.{Dev}
-use Rattle.dev_model.specs.Refusals.{download_refusal}
 use Rattle.dev_model.specs.Options.{first_passed}
 use Rattle.dev_model.specs.Partitions.{with_mode}
 use Rattle.dev_model.specs.Variables.{value}
 use Rattle.wire_model.specs.FirstPath.{is_first_question, is_some_name}
-use Rattle.wire_model.specs.Says.{Loaded, Said, says, answers, tells, tells_all, awaits, mode_of}
-use Rattle.wire_model.specs.Wire.{Wire, Phase, Command, Data, answered, received, with_replies}
+use Rattle.wire_model.specs.Says.{Loaded, says, answers, tells, tells_all, awaits, mode_of}
+use Rattle.wire_model.specs.Wire.{Wire, Command, Data, answered, received, with_replies}
 use Rattle.fb_top.specs.declared.plain_layout.PlainLayout.{PlainLayout}
 use Rattle.fb_top.specs.PlainLayout.{behind}
 use Rattle.fb_top.specs.PlainDevices.{plain_dev, is_named}

@@ -1,6 +1,6 @@
 -- What a plain port's device does with the bytes that are due.
-use Rattle.std.proofs.Common.{◌≡◌, ◌≢◌, ◌⊎◌, inl, inr, ℕ, ◌+◌, ◌-◌, ◌^◌, ◌<◌, ◌≤◌, Bool, true, false, cond, Option, Some, None, List, [], ◌∷◌, ◌++◌, length, take, drop, refl, sym, ap, ◌∙◌, subst, arith, append_assoc, length-append, length-drop, length-take, take-append-drop, append-nil}
-use Rattle.std.specs.Prelude.{is_none, IsTrue, IsFalse, if◌then◌else◌}
+use Rattle.std.proofs.Common.{◌≡◌, ◌≢◌, ◌⊎◌, inl, inr, ℕ, ◌+◌, ◌^◌, ◌<◌, ◌≤◌, Bool, true, false, Option, Some, None, List, [], ◌∷◌, ◌++◌, length, take, drop, refl, sym, ap, ◌∙◌, subst, arith, take-append-drop, append-nil}
+use Rattle.std.specs.Prelude.{if◌then◌else◌}
 use Rattle.fb_frame.specs.Framing.{announced}
 use Rattle.fb_message.specs.CommandText.{command_of}
 use Rattle.std.proofs.lemmas.Bool.Decides.{nat_tests}
@@ -23,7 +23,7 @@ use Rattle.fb_top.specs.PlainDevices.{dev_of}
 use Rattle.fb_top.specs.PlainTurns.{item_of, is_whole, due_of, front_of, once, is_part, is_below, is_answered}
 use Rattle.fb_top.specs.PlainWires.{wire_of, loaded_of, IsReady, MayHalt}
 use Rattle.fb_top.specs.PlainPeers.{MayLead, state_of}
-use Rattle.fb_top.proofs.PlainCuts.{cut_is, Turned, turned, stage_fine, goes_once, limit_reached, limit_ahead, split_last, data_fits, none_is, part_fine, due_is}
+use Rattle.fb_top.proofs.PlainCuts.{cut_is, turned, stage_fine, goes_once, limit_reached, limit_ahead, split_last, data_fits, none_is, part_fine, due_is}
 
 no_bytes : (x : List ℕ) → (x ≡ []) ⊎ (0 < length x)
 no_bytes [] = inl refl

@@ -1,11 +1,11 @@
 -- What the bytes of a device image stand for: a device, or the first kind of flaw (this profile's own).
-use Rattle.std.specs.Prelude.{◌≡◌, ℕ, ◌+◌, ◌%◌, Bool, ◌&&◌, List, length, take, drop, nat_lt, nat_eq, Option, Some, None, Result, Ok, Err, IsTrue, if◌then◌else◌}
+use Rattle.std.specs.Prelude.{◌≡◌, ℕ, ◌+◌, Bool, List, length, take, drop, nat_lt, nat_eq, Option, Some, None, Result, Ok, Err, IsTrue, if◌then◌else◌}
 use Rattle.fb_frame.specs.NameText.{is_name}
 use Rattle.dev_model.specs.Validity.{is_label}
 use Rattle.dev_model.specs.declared.bad_image.BadImage.{BadImage}
 use Rattle.dev_model.specs.declared.bad_image.BadImage.TheVariants.{ShortFile, BadLayout, BadLength, BadState}
 use Rattle.dev_model.specs.declared.device.Mode.TheVariants.{Bootloader}
-use Rattle.wire_model.specs.Places.{Place, ImageAt, TcpAt, Stand, Device, Bad, Nothing, Stands}
+use Rattle.wire_model.specs.Places.{ImageAt, TcpAt, Stand, Device, Bad, Nothing, Stands}
 use Rattle.dev_disk.specs.Files.{Files}
 use Rattle.fb_top.specs.declared.plain_layout.PlainLayout.{PlainLayout}
 use Rattle.fb_top.specs.PlainLayout.{layout_of, is_size}

@@ -1,6 +1,6 @@
 -- The state record of a device image (this profile's own), version 1, of a device without slots: 32 bytes,
 -- their SHA-256, and zeros.
-use Rattle.std.specs.Prelude.{ℕ, Bool, true, false, ◌&&◌, List, [], ◌∷◌, ◌++◌, take, drop, replicate, Option, Some, None, if◌then◌else◌, bytes_eq, codes}
+use Rattle.std.specs.Prelude.{ℕ, Bool, true, false, ◌&&◌, List, ◌∷◌, ◌++◌, take, drop, replicate, Option, Some, None, if◌then◌else◌, bytes_eq, codes}
 use Rattle.std.specs.Int.{w32, to_le_bytes}
 use Rattle.std.specs.List.{list_all}
 use Rattle.std.specs.Option.{option_or}

@@ -1,5 +1,5 @@
 -- The connection of a plain port's device, as a wire state.
-use Rattle.std.specs.Prelude.{◌≡◌, ℕ, Bool, true, false, List, [], ◌++◌, ◌+◌, ◌<◌, ◌≤◌, ◌⊎◌, length, drop, flat_map, bytes_eq, Option, Some, None, IsTrue, if◌then◌else◌}
+use Rattle.std.specs.Prelude.{◌≡◌, ℕ, Bool, true, false, List, [], ◌++◌, ◌+◌, ◌<◌, ◌≤◌, ◌⊎◌, length, drop, flat_map, bytes_eq, Some, None, IsTrue, if◌then◌else◌}
 use Rattle.fb_frame.specs.Framing.{frame}
 use Rattle.fb_message.specs.CommandText.{CommandValue, command_of}
 use Rattle.fb_message.specs.declared.reply.Reply.{Reply}
@@ -9,9 +9,7 @@ use Rattle.dev_model.specs.Images.{round_up}
 use Rattle.dev_model.specs.Partitions.{with_mode}
 use Rattle.wire_model.specs.Says.{Loaded, says}
 use Rattle.wire_model.specs.Halts.{Halts}
-use Rattle.wire_model.specs.Wire as wire
 use Rattle.wire_model.specs.Wire.{Wire, answered, received}
-use Rattle.fb_top.specs.declared.plain_stage.Stage.{Stage}
 use Rattle.fb_top.specs.declared.plain_stage.Stage.TheVariants as stage
 use Rattle.fb_top.specs.declared.plain_line.PlainLine.{PlainLine}
 use Rattle.fb_top.specs.declared.plain_device.PlainDevice.{PlainDevice}

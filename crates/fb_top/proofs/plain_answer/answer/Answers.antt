@@ -1,4 +1,4 @@
-use Rattle.std.proofs.Common.{◌≡◌, ap, sym, ◌∙◌, subst, true}
+use Rattle.std.proofs.Common.{ap, sym, ◌∙◌, subst, true}
 use Rattle.dev_model.specs.declared.device.Mode.{Mode}
 use Rattle.dev_model.specs.Partitions.{with_mode}
 use Rattle.fb_message.specs.CommandText.{CommandValue, command_value}

@@ -1,11 +1,10 @@
-use Rattle.std.proofs.Common.{◌≡◌, ◌+◌, ◌^◌, ◌<◌, ◌≤◌, [], ◌∷◌, length, map, drop, ap, sym, ◌∙◌, false, Some, subst, arith}
-use Rattle.std.specs.Prelude.{option_and_then}
+use Rattle.std.proofs.Common.{◌≡◌, ◌≤◌, [], ◌∷◌, map, drop, ap, sym, ◌∙◌, subst, arith}
 use Rattle.fb_message.specs.CommandText.{Flash}
 use Rattle.fb_message.specs.declared.reply.Reply.TheVariants.{Okay}
 use Rattle.dev_model.specs.declared.cells.Cell.TheVariants.{Byte}
 use Rattle.dev_model.specs.declared.device.Dev.{Dev}
 use Rattle.dev_model.specs.declared.device.Mode.TheVariants.{Halted}
-use Rattle.dev_model.specs.Images.{image, over}
+use Rattle.dev_model.specs.Images.{over}
 use Rattle.dev_model.specs.Partitions.{with_mode}
 use Rattle.wire_model.specs.Halts.{Halts}
 use Rattle.wire_model.specs.Says.{answers, loaded_image}

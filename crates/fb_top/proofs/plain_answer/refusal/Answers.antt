@@ -1,5 +1,4 @@
-use Rattle.std.proofs.Common.{◌≡◌, ◌^◌, ◌<◌, ◌≤◌, ◌+◌, length, drop, true, false, Some, ap, sym, ◌∙◌, arith, length-drop}
-use Rattle.std.specs.Prelude.{codes, bytes_eq}
+use Rattle.std.proofs.Common.{◌≡◌, ◌<◌, ◌≤◌, length, drop, Some, ap, ◌∙◌, arith, length-drop}
 use Rattle.dev_model.specs.Images.{round_up}
 use Rattle.fb_top.proofs.PlainFlash.{other_refused, empty_refused, large_refused, flash_taken, not_equal, not_unequal, none_of, some_of}
 use Rattle.fb_top.proofs.PlainPuts.{round_up_le}

@@ -1,6 +1,5 @@
 use Rattle.fb_top.proofs.PlainSays.{slots_here, most_here, own_here, none_here}
 use Rattle.std.proofs.Common.{drop}
-use Rattle.fb_top.proofs.PlainFlash.{over_bytes}
 use Rattle.fb_top.proofs.plain_answer.value_of.Goals as goal
 
 pub returns-then-eq-clause-value : goal.returns-then-eq-clause-value

@@ -7,7 +7,6 @@ use Rattle.wire_model.specs.Places.{ImageAt, Device, Bad, Aims, IsBad}
 use Rattle.fb_top.specs.PlainDevices.{plain_dev}
 use Rattle.fb_top.specs.PlainStand.{plain_stands, stand_of}
 use Rattle.fb_top.proofs.PlainFiles.{aims_at, bad_at}
-use Rattle.dev_disk.specs.Calls.{IsOpen}
 use Rattle.dev_disk.specs.Files.{content}
 use Rattle.fb_top.specs.PlainDisks.{IsImage}
 use Rattle.fb_top.specs.PlainFronts.{front_of}

@@ -1,5 +1,5 @@
-use Rattle.std.proofs.Common.{◌≡◌, length, take, drop, ◌++◌, sym, ap, ◌∙◌, subst, Some, arith}
-use Rattle.dev_disk.specs.Calls.{HasLength, IsOpen, OpensPath}
+use Rattle.std.proofs.Common.{◌≡◌, length, drop, sym, subst, arith}
+use Rattle.dev_disk.specs.Calls.{HasLength, OpensPath}
 use Rattle.dev_disk.specs.Files.{content, IsRead}
 use Rattle.fb_top.specs.PlainStand.{IsFileOf}
 use Rattle.fb_top.proofs.PlainFiles.{read_whole, whole_items}

@@ -1,6 +1,6 @@
 use Rattle.fb_frame.specs.Causes.{Rose}
 use Rattle.fb_top.specs.PlainPeers.{state_of}
-use Rattle.std.proofs.Common.{◌≡◌, length, sym, arith}
+use Rattle.std.proofs.Common.{◌≡◌, length, arith}
 use Rattle.dev_disk.specs.Files.{content}
 use Rattle.fb_top.proofs.PlainFiles.{keeps_same, left_halted}
 use Rattle.fb_top.proofs.PlainHeld.{image_written}

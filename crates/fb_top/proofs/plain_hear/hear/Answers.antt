@@ -1,10 +1,10 @@
-use Rattle.std.proofs.Common.{◌≡◌, ℕ, List, ◌++◌, drop, sym, ap, ◌∙◌, subst}
+use Rattle.std.proofs.Common.{ℕ, List, ◌++◌, drop, sym, ap, ◌∙◌, subst}
 use Rattle.dev_model.specs.declared.device.Mode.TheVariants.{Halted}
 use Rattle.dev_model.specs.Partitions.{with_mode}
 use Rattle.fb_message.specs.CommandText.{command_of}
 use Rattle.wire_model.specs.Halts.{Halts}
 use Rattle.wire_model.specs.Says.{says}
-use Rattle.wire_model.specs.Wire.{Phase, answered, received, heard, paid}
+use Rattle.wire_model.specs.Wire.{answered, received, heard, paid}
 use Rattle.fb_top.specs.declared.plain_stage.Stage.{Stage}
 use Rattle.fb_top.specs.PlainDevices.{dev_of}
 use Rattle.fb_top.specs.PlainStages.{phase_of}

@@ -1,4 +1,4 @@
-use Rattle.std.proofs.Common.{◌≡◌, ◌+◌, ◌^◌, ◌≤◌, length, take, drop, sym, ◌∙◌, arith}
+use Rattle.std.proofs.Common.{sym, ◌∙◌, arith}
 use Rattle.fb_top.proofs.PlainLists.{front_length}
 use Rattle.fb_top.proofs.PlainLayouts.{layout_fact, size_most, found_device, found_no_state}
 use Rattle.fb_top.proofs.PlainHeld.{front_found}

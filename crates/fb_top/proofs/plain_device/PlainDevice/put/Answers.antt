@@ -1,4 +1,4 @@
-use Rattle.std.proofs.Common.{◌≡◌, ◌+◌, ◌-◌, ◌≤◌, length, take, drop, refl, sym, ap, ◌∙◌, arith, length-take, length-drop}
+use Rattle.std.proofs.Common.{◌≡◌, ◌-◌, ◌≤◌, length, take, drop, refl, sym, ap, ◌∙◌, arith, length-take, length-drop}
 use Rattle.fb_top.specs.PlainFronts.{front_of}
 use Rattle.fb_top.proofs.PlainPuts.{put_items, front_kept, part_new, put_is}
 use Rattle.fb_top.proofs.plain_device.PlainDevice.put.Goals as goal

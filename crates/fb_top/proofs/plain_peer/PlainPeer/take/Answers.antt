@@ -1,6 +1,4 @@
-use Rattle.std.proofs.Common.{◌≡◌, ℕ, ◌+◌, ◌-◌, ◌^◌, ◌<◌, ◌≤◌, List, [], ◌++◌, length, take, true, sym, ap, ◌∙◌, arith}
-use Rattle.std.specs.Prelude.{min}
-use Rattle.wire_model.specs.Wire.{after}
+use Rattle.std.proofs.Common.{ℕ, ◌+◌, ◌≤◌, List, take, true, ap, ◌∙◌, arith}
 use Rattle.fb_top.specs.PlainTurns.{due_of}
 use Rattle.fb_top.specs.PlainPeers.{state_of}
 use Rattle.fb_top.specs.PlainWires.{wire_of}

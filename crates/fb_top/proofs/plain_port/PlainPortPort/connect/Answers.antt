@@ -1,4 +1,4 @@
-use Rattle.std.proofs.Common.{◌≡◌, refl, sym, ap, ◌∙◌, subst, Option, Some}
+use Rattle.std.proofs.Common.{refl, sym, ap, ◌∙◌, subst, Option, Some}
 use Rattle.wire_model.specs.Told.{HungUp}
 use Rattle.fb_top.specs.declared.plain_device.PlainDevice.{PlainDevice}
 use Rattle.fb_top.specs.declared.plain_peer.PlainPeer.{PlainPeer}

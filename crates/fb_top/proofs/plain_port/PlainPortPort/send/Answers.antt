@@ -1,4 +1,4 @@
-use Rattle.std.proofs.Common.{◌≡◌, take, refl, sym, ap, ◌∙◌, subst, Option, Some}
+use Rattle.std.proofs.Common.{take, sym, ap, ◌∙◌, subst, Option, Some}
 use Rattle.std.specs.Prelude.{option_map, is_some}
 use Rattle.wire_model.specs.Places.{ImageAt}
 use Rattle.wire_model.specs.Told.{Sent}
