@@ -1,6 +1,6 @@
 -- A command and its reply, as values: what the device said, and what it is now.
-use Rattle.std.proofs.Common.{◌≡◌, ◌≢◌, ◌⊎◌, cond, not, ◌*◌, inl, inr, ℕ, zero, suc, ◌+◌, ◌<◌, ◌≤◌, Bool, true, false, ◌&&◌, List, [], ◌∷◌, ◌++◌, length, map, Option, Some, None, refl, sym, ap, ◌∙◌, subst, arith}
-use Rattle.std.specs.Prelude.{IsTrue, codes, bytes_eq, ◌↔◌}
+use Rattle.std.proofs.Common.{◌≡◌, ◌≢◌, ◌⊎◌, cond, not, ◌*◌, inl, inr, ℕ, ◌+◌, ◌<◌, ◌≤◌, Bool, true, false, List, [], ◌∷◌, length, map, Option, Some, None, refl, sym, ap, ◌∙◌, subst, arith}
+use Rattle.std.specs.Prelude.{IsTrue, codes, bytes_eq}
 use Rattle.std.specs.List.{list_all}
 use Rattle.std.proofs.lemmas.Option.{none-some}
 use Rattle.fb_frame.specs.Causes.{Rose}
@@ -14,7 +14,7 @@ use Rattle.fb_message.proofs.Replies.{reply_again}
 use Rattle.fb_message.proofs.Read.{reply_read}
 use Rattle.fb_message.proofs.Words.{only-yes, only-inverse, parts}
 use Rattle.dev_model.specs.Validity.{IsValid}
-use Rattle.wire_model.specs.Peers.{Peer, Apart, Joined, OfLink, OnLink}
+use Rattle.wire_model.specs.Peers.{Peer, Apart, Joined, OnLink}
 use Rattle.wire_model.specs.Says.{Loaded, Said, says, tells, tells_all}
 use Rattle.dev_model.specs.declared.device.Dev.{Dev}
 use Rattle.dev_model.specs.Variables.{value}
@@ -22,9 +22,9 @@ use Rattle.wire_model.proofs.RepliedLemmas.{Idle-steady, Receiving-told, Done-bu
 use Rattle.wire_model.specs.Wire.{Wire}
 use Rattle.wire_model.specs.Halts.{Halts}
 use Rattle.wire_model.specs.Turns.{CommandTest}
-use Rattle.wire_model.specs.Told.{Passes, Idle, Receiving, disk_fault, replies_to}
+use Rattle.wire_model.specs.Told.{Passes, Idle, disk_fault}
 use Rattle.wire_model.specs.Replied.{IsFirstOf, IsDone, IsFailed, IsReplied, Replied, Done, IsData, is_steady}
-use Rattle.wire_model.specs.FirstPath.{is_first_path, IsFirst, PassesFirst}
+use Rattle.wire_model.specs.FirstPath.{is_first_path, PassesFirst}
 use Rattle.wire_model.proofs.Lifted.{of-of, of-on, on-on, with-on}
 use Rattle.wire_model.proofs.AnswerLemmas.{DidSo-did}
 use Rattle.wire_model.proofs.FirstLemmas.{Passes-first}

@@ -1,6 +1,6 @@
 -- A download, a flash and a reboot of a told device are what the definitions say.
-use Rattle.std.proofs.Common.{◌≡◌, ◌≢◌, ◌⊎◌, inl, inr, ℕ, zero, suc, ◌+◌, ◌*◌, ◌<◌, ◌≤◌, ◌%◌, Bool, true, false, not, ◌&&◌, ◌||◌, if◌then◌else◌, List, [], ◌∷◌, ◌++◌, length, map, Option, Some, None, refl, sym, ap, ◌∙◌, subst, arith, nat_le, nat_lt, append-nil}
-use Rattle.std.specs.Prelude.{IsTrue, IsFalse, codes, is_none, option_and_then, unwrap_or}
+use Rattle.std.proofs.Common.{◌≡◌, ◌≢◌, ◌⊎◌, inl, inr, ℕ, ◌≤◌, true, false, not, ◌&&◌, List, [], ◌∷◌, ◌++◌, length, map, Option, Some, None, refl, sym, ap, ◌∙◌, subst, arith, nat_le, nat_lt, append-nil}
+use Rattle.std.specs.Prelude.{IsTrue, codes, is_none, option_and_then, unwrap_or}
 use Rattle.std.proofs.lemmas.Option.{none-some}
 use Rattle.std.proofs.lemmas.Bool.Decides.{nat_tests}
 use Rattle.fb_frame.specs.Causes.{Rose}
@@ -17,18 +17,18 @@ use Rattle.dev_model.specs.declared.step.Step.{Step}
 use Rattle.dev_model.specs.declared.step.Step.TheVariants.{Put, Boot}
 use Rattle.dev_model.specs.Images.{image, is_sparse}
 use Rattle.dev_model.specs.Partitions.{is_fastboot}
-use Rattle.dev_model.specs.Refusals.{download_refusal, flash_refusal, refusal_of}
+use Rattle.dev_model.specs.Refusals.{flash_refusal, refusal_of}
 use Rattle.dev_model.specs.Steps.{can, apply}
-use Rattle.dev_model.specs.Validity.{IsValid, is_between}
+use Rattle.dev_model.specs.Validity.{IsValid}
 use Rattle.dev_model.proofs.Taken.{takes_unless_refused, flash_refuses_as_put}
-use Rattle.wire_model.specs.Peers.{Peer, Apart, Joined, device_of, OfLink, OnLink}
-use Rattle.wire_model.specs.FirstPath.{is_first_path, is_raw}
-use Rattle.wire_model.specs.Says.{Loaded, Said, says, awaits, decides, leaves, loaded_image}
+use Rattle.wire_model.specs.Peers.{Peer, Apart, Joined, OnLink}
+use Rattle.wire_model.specs.FirstPath.{is_raw}
+use Rattle.wire_model.specs.Says.{Loaded, Said, says, decides, leaves, loaded_image}
 use Rattle.wire_model.specs.Wire.{Wire}
-use Rattle.wire_model.specs.Told.{IsIdle, Idle, IsLoaded, LoadedBy, Receiving, Answers, IsAnswering, Heard, HeardReply}
+use Rattle.wire_model.specs.Told.{IsIdle, Idle, IsLoaded, LoadedBy, Answers, IsAnswering, HeardReply}
 use Rattle.wire_model.proofs.Lifted.{of-of, of-on, on-on, with-on, on-then}
 use Rattle.wire_model.proofs.AnswerLemmas.{frame-front}
-use Rattle.fb_top.specs.Asking.{IsAnswered, IsFaulted, Answered, ValidPeer, IsTaken, Behind, first_reply}
+use Rattle.fb_top.specs.Asking.{IsAnswered, IsFaulted, Answered, ValidPeer, IsTaken, first_reply}
 use Rattle.fb_top.specs.Products.{IsRawImage, most_bytes}
 use Rattle.fb_top.specs.Flashing.{Serves, IsDownloaded, Downloaded, Takes, Refuses, OnDevice, put_step, Took, Refused}
 use Rattle.fb_top.proofs.AskingLemmas.{on-none}

@@ -1,5 +1,5 @@
 -- What fbflash does over told files and targets.
-use Rattle.std.proofs.Common.{◌≡◌, ◌≢◌, ◌⊎◌, inl, inr, not, ℕ, ◌≤◌, Bool, true, false, ◌&&◌, ◌||◌, if◌then◌else◌, List, [], ◌∷◌, ◌++◌, length, map, Option, Some, None, Result, Ok, Err, refl, sym, ap, ◌∙◌, subst, arith}
+use Rattle.std.proofs.Common.{◌≡◌, ◌⊎◌, inl, inr, not, ℕ, ◌≤◌, Bool, true, false, ◌&&◌, ◌||◌, if◌then◌else◌, List, [], ◌∷◌, length, map, Option, Some, None, Result, Ok, Err, refl, sym, ap, ◌∙◌, subst, arith}
 use Rattle.std.specs.Prelude.{is_none}
 use Rattle.std.specs.Option.{option_or}
 use Rattle.std.proofs.lemmas.List.{length-map}
@@ -19,7 +19,7 @@ use Rattle.dev_model.specs.Steps.{can, apply, run, is_boot, meets}
 use Rattle.dev_model.proofs.Taken.{takes_unless_refused}
 use Rattle.flash_plan.specs.Files.{Files, IsThere}
 use Rattle.wire_model.specs.Peers.{Peer, Apart, Joined, device_of}
-use Rattle.wire_model.specs.Places.{Place, ImageAt, Stand, Stands, Device, Bad, Nothing, AimsBy, Aims, IsNothing, IsBadBy}
+use Rattle.wire_model.specs.Places.{Place, ImageAt, Stand, Stands, Device, Nothing, AimsBy, Aims, IsBadBy}
 use Rattle.wire_model.specs.Told.{HungUp}
 use Rattle.fb_top.specs.declared.host.HostError.{HostError}
 use Rattle.fb_top.specs.declared.host.HostError.TheVariants as host
@@ -34,13 +34,13 @@ use Rattle.fb_top.specs.Asking.{IsCut}
 use Rattle.fb_top.specs.Flashing.{OnTold}
 use Rattle.fb_top.specs.Outcomes.{Outcome, Usage, Elsewhere, Flawed, Aimless, NoDevice, NoPlan, Refusing, Done, status_of_outcome, first_refusal, taken_outcome, plan_outcome, stand_outcome, product_outcome, found_outcome, files_outcome, is_elsewhere, words_outcome, IsOutcome}
 use Rattle.fb_top.specs.Printed.{step_lines, done_line, report, printed}
-use Rattle.fb_top.specs.Reports.{IsDone, Ends, EndsBy, Excused, Reports}
+use Rattle.fb_top.specs.Reports.{IsDone, Ends, EndsBy, Reports}
 use Rattle.fb_top.specs.Plans.{PlanFault, plan_of}
 use Rattle.fb_top.specs.HostWords.{FlashAllText}
-use Rattle.fb_top.specs.Products.{ProductValue, Fault, IsProduct, IsFlawed, StopsProduct, product_of}
-use Rattle.fb_top.specs.Runs.{IsAimed, Installed, Planned, WhyRun, Unruns, Unrun, Unplanned, installed, run_plan, product_value, Quiet}
+use Rattle.fb_top.specs.Products.{ProductValue, IsProduct, IsFlawed, StopsProduct, product_of}
+use Rattle.fb_top.specs.Runs.{IsAimed, Installed, Planned, WhyRun, Unruns, Unrun, Unplanned, run_plan, product_value, Quiet}
 use Rattle.fb_top.proofs.RunLemmas.{grew-then}
-use Rattle.fb_top.specs.Installs.{installed_on, IsDevice, InstallsBy, Succeeds, IsElsewhere, IsAbsent, IsStillBy, IsEarly, Leaves, QuietHost, WhyHost, status_of, OfProduct, InstallsOn}
+use Rattle.fb_top.specs.Installs.{installed_on, IsDevice, InstallsBy, Succeeds, IsElsewhere, IsStillBy, IsEarly, Leaves, QuietHost, WhyHost, status_of, OfProduct, InstallsOn}
 
 -- a directory that isn't there is another than the words'
 pub elsewhere : (words : FlashAllText) (path : Option (List ℕ)) → IsThere path words.dir false → IsElsewhere (Some words) path

@@ -1,11 +1,8 @@
 -- Raw images that are padded to whole blocks.
-use Rattle.std.proofs.Common.{◌≡◌, ℕ, zero, suc, ◌+◌, ◌-◌, ◌%◌, ◌<◌, ◌≤◌, ◌^◌, Bool, true, false, ◌&&◌, List, [], ◌∷◌, ◌++◌, length, map, replicate, nat_lt, nat_eq, Option, Some, refl, sym, ap, ◌∙◌, arith, append-nil, length-append, add-zero, lt-ltb}
-use Rattle.std.specs.Int.{next_multiple_of}
-use Rattle.dev_model.specs.declared.cells.Cell.{Cell}
+use Rattle.std.proofs.Common.{◌≡◌, ℕ, zero, suc, ◌+◌, ◌-◌, ◌%◌, ◌^◌, Bool, true, false, ◌&&◌, List, [], ◌∷◌, ◌++◌, length, map, replicate, nat_lt, nat_eq, Some, refl, ap, ◌∙◌, arith, append-nil, add-zero, lt-ltb}
 use Rattle.dev_model.specs.declared.cells.Cell.TheVariants.{Byte}
-use Rattle.dev_model.specs.Options.{◌>>=◌, needs}
 use Rattle.dev_model.specs.Images.{image, is_sparse, raw_cells, round_up}
-use Rattle.fb_top.specs.Products.{most_bytes, IsRawImage}
+use Rattle.fb_top.specs.Products.{IsRawImage}
 
 and-false : (b : Bool) → (b && false) ≡ false
 and-false true = refl

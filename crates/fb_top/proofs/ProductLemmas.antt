@@ -1,13 +1,13 @@
 -- What the files of a product say, from what was read of them.
-use Rattle.std.proofs.Common.{◌≡◌, ℕ, zero, suc, ◌+◌, ◌-◌, ◌<◌, ◌≤◌, Bool, true, false, ◌&&◌, ◌||◌, List, [], ◌∷◌, ◌++◌, length, take, drop, map, nat_lt, nat_le, nat_eq, ◌==◌, if◌then◌else◌, unwrap_or, lt-ltb, replicate, length-append, ◌^◌, ◌%◌, Option, Some, None, Result, Ok, Err, refl, sym, ap, ◌∙◌, subst, arith, length-take, length-drop}
+use Rattle.std.proofs.Common.{◌≡◌, ℕ, ◌+◌, ◌-◌, ◌<◌, ◌≤◌, Bool, true, false, ◌&&◌, ◌||◌, List, [], ◌∷◌, length, take, drop, map, nat_lt, nat_le, nat_eq, ◌==◌, if◌then◌else◌, unwrap_or, lt-ltb, replicate, length-append, ◌^◌, ◌%◌, Option, Some, None, Result, Ok, Err, refl, sym, ap, ◌∙◌, subst, arith, length-take, length-drop}
 use Rattle.std.proofs.lemmas.Bool.Decides.{nat_tests}
 use Rattle.dev_model.specs.declared.cells.Cell.{Cell}
-use Rattle.flash_plan.specs.Files.{Files, IsFile, IsAbsent, IsLonger, Exceeds}
+use Rattle.flash_plan.specs.Files.{Files, IsFile, Exceeds}
 use Rattle.fb_top.specs.declared.product.ProductError.{ProductError}
 use Rattle.fb_top.specs.declared.product.ProductError.TheVariants.{Memory, Directory, Bad}
 use Rattle.fb_top.specs.declared.product.Flaw.{Flaw}
 use Rattle.fb_top.specs.declared.product.Flaw.TheVariants.{Absent, NotBuilt, Empty}
-use Rattle.fb_top.specs.Products.{requirements_file, tasks_file, image_file, no_requirements, flash_task, flash_name, Unread, SayRequirements, SayTask, SayImage, StopsAt, StopsRequirements, StopsTask, StopsImage, StopsProduct, IsProduct, IsRawImage, most_bytes, raw_image, image_flaw, image_or, padded, flash_front, behind_front, line_of, task_name, is_task_name}
+use Rattle.fb_top.specs.Products.{requirements_file, tasks_file, image_file, no_requirements, flash_task, flash_name, Unread, SayRequirements, SayTask, SayImage, StopsAt, StopsRequirements, StopsTask, StopsImage, StopsProduct, IsProduct, IsRawImage, most_bytes, raw_image, image_flaw, image_or, padded, flash_front, line_of, task_name}
 use Rattle.std.proofs.lemmas.Option.{none-some}
 use Rattle.std.proofs.lemmas.List.{length-replicate}
 use Rattle.fb_frame.specs.Causes.{Rose}

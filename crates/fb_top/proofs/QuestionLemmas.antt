@@ -1,5 +1,5 @@
 -- What the host learns by its questions is so.
-use Rattle.std.proofs.Common.{◌≡◌, ◌≤◌, ◌&&◌, nat_le, length, length-append, subst, arith, ℕ, Bool, true, false, if◌then◌else◌, List, ◌++◌, Option, Some, None, refl, sym, ap, ◌∙◌}
+use Rattle.std.proofs.Common.{◌≡◌, ◌≤◌, ◌&&◌, nat_le, length, length-append, subst, arith, ℕ, Bool, true, false, if◌then◌else◌, List, Option, Some, None, refl, sym, ap, ◌∙◌}
 use Rattle.std.specs.Prelude.{IsTrue, codes}
 use Rattle.std.specs.Option.{option_or}
 use Rattle.std.specs.List.{list_all}
@@ -8,14 +8,13 @@ use Rattle.fb_message.proofs.Words.{parts}
 use Rattle.wire_model.specs.Replied.{is_steady}
 use Rattle.std.proofs.lemmas.Option.{none-some}
 use Rattle.fb_frame.specs.Numbers.{size_text}
-use Rattle.fb_frame.specs.NameText.{is_name, is_name_byte, IsName}
+use Rattle.fb_frame.specs.NameText.{is_name_byte, IsName}
 use Rattle.fb_message.specs.CommandText.{GetVar}
 use Rattle.dev_model.specs.declared.device.Dev.{Dev}
 use Rattle.dev_model.specs.Partitions.{has_slots, is_physical, is_logical}
 use Rattle.dev_model.specs.Validity.{IsValid}
 use Rattle.dev_model.specs.Variables.{value}
-use Rattle.wire_model.specs.Peers.{Peer, OfLink, OnLink}
-use Rattle.wire_model.specs.Wire.{Wire}
+use Rattle.wire_model.specs.Peers.{Peer, OnLink}
 use Rattle.wire_model.specs.Told.{IsIdle, Idle}
 use Rattle.wire_model.specs.FirstPath.{is_first_question}
 use Rattle.wire_model.proofs.Lifted.{of-of, with-on}
@@ -23,7 +22,7 @@ use Rattle.fb_top.specs.Asking.{ValidPeer, IsTaken, IsTold, Tells}
 use Rattle.fb_top.specs.Plans.{kind_of}
 use Rattle.fb_top.specs.Questions.{slots_read, kind_read, kind_question, Learns, LearnsSlots, LearnsKind, LearnsMax}
 use Rattle.fb_top.proofs.AskingLemmas.{on-none}
-use Rattle.fb_top.proofs.VariableLemmas.{slot-count, download-size, partition-kind, kind_text}
+use Rattle.fb_top.proofs.VariableLemmas.{slot-count, download-size, partition-kind}
 
 -- every port takes such a question
 pub IsTaken-question : (spare : ℕ) (a : Option Peer) (name : List ℕ) → IsTrue (is_first_question name) → Idle spare a → IsTaken a (GetVar name)

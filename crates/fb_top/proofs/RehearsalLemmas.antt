@@ -8,14 +8,13 @@ use Rattle.dev_model.specs.declared.cells.Cell.{Cell}
 use Rattle.dev_model.specs.declared.device.Dev.{Dev}
 use Rattle.dev_model.specs.declared.device.Mode.{Mode}
 use Rattle.dev_model.specs.declared.device.Mode.TheVariants.{System, Bootloader, Halted}
-use Rattle.dev_model.specs.declared.step.Step.{Step}
 use Rattle.dev_model.specs.declared.step.Step.TheVariants.{Put, Boot}
 use Rattle.dev_model.specs.Options.{◌>>=◌, needs}
 use Rattle.dev_model.specs.Partitions.{has_slots, with_mode}
 use Rattle.dev_model.specs.Steps.{can, apply, run}
 use Rattle.flash_plan.specs.Files.{Files}
 use Rattle.wire_model.specs.Peers.{Peer, device_of}
-use Rattle.wire_model.specs.Places.{Place, ImageAt, Stand, Stands, Device, Bad, Nothing, KeepsOthers}
+use Rattle.wire_model.specs.Places.{Place, ImageAt, Stand, Stands, Device, Bad, Nothing}
 use Rattle.fb_top.specs.declared.plan.PlanKind.TheVariants.{NotBuilt}
 use Rattle.fb_top.specs.HostWords.{FlashAllText}
 use Rattle.fb_top.specs.Asking.{IsCut}
@@ -29,10 +28,10 @@ use Rattle.fb_top.specs.PlainState.{state_of}
 use Rattle.fb_top.specs.Reports.{Reports}
 use Rattle.fb_top.specs.PlainDisks.{stand_at, HoldsBy, Holds}
 use Rattle.fb_top.specs.PlainStand.{opened, stand_by, stand_of, stand_in, plain_stands}
-use Rattle.fb_top.specs.Plans.{kind_of, planned, plan_of}
+use Rattle.fb_top.specs.Plans.{kind_of, planned}
 use Rattle.fb_top.specs.Products.{ProductValue, Fault, product_of}
-use Rattle.fb_top.specs.Rehearsals.{IsStored, StoresIn, StoresBy, Rehearses, IsBeside, KeepsImages, KeepsAll}
-use Rattle.fb_top.specs.Runs.{run_plan, installed}
+use Rattle.fb_top.specs.Rehearsals.{IsStored, Rehearses, KeepsImages, KeepsAll}
+use Rattle.fb_top.specs.Runs.{run_plan}
 use Rattle.fb_top.specs.Targets.{IsTurned, KeepsBeside}
 
 -- A plan ends in a reboot.

@@ -1,6 +1,6 @@
 -- A whole installation over a told device is the run of its plan.
-use Rattle.std.proofs.Common.{◌≡◌, ◌⊎◌, inl, inr, not, ℕ, ◌+◌, ◌≤◌, Bool, true, false, ◌&&◌, ◌||◌, if◌then◌else◌, List, [], ◌∷◌, ◌++◌, map, Option, Some, None, Result, Ok, Err, refl, sym, ap, ◌∙◌, subst, arith, append_assoc, true≢false}
-use Rattle.std.specs.Prelude.{IsTrue, IsFalse}
+use Rattle.std.proofs.Common.{◌≡◌, inl, inr, ℕ, ◌≤◌, Bool, true, false, if◌then◌else◌, List, [], ◌∷◌, ◌++◌, Option, Some, None, Result, Ok, Err, refl, sym, ap, ◌∙◌, subst, arith, append_assoc, true≢false}
+use Rattle.std.specs.Prelude.{IsTrue}
 use Rattle.std.specs.Option.{option_or}
 use Rattle.std.proofs.lemmas.Option.{none-some}
 use Rattle.fb_frame.specs.Causes.{Rose}
@@ -8,21 +8,19 @@ use Rattle.fb_frame.specs.Sinks.{Grew}
 use Rattle.dev_model.specs.declared.device.Dev.{Dev}
 use Rattle.dev_model.specs.declared.device.Mode.TheVariants.{System}
 use Rattle.dev_model.specs.declared.step.Step.{Step}
-use Rattle.dev_model.specs.declared.step.Step.TheVariants.{Put, Boot}
-use Rattle.dev_model.specs.Options.{◌>>=◌, needs}
+use Rattle.dev_model.specs.declared.step.Step.TheVariants.{Boot}
 use Rattle.dev_model.specs.Partitions.{is_fastboot, has_slots}
-use Rattle.dev_model.specs.Steps.{can, apply, run, is_boot, meets}
-use Rattle.dev_model.specs.Refusals.{refusal_of}
+use Rattle.dev_model.specs.Steps.{can, apply, run}
 use Rattle.dev_model.specs.Validity.{IsValid}
 use Rattle.dev_model.proofs.Keeps.{keeps_valid}
 use Rattle.wire_model.specs.Peers.{Peer, Apart, Joined, device_of, OfLink, OnLink}
 use Rattle.wire_model.specs.Wire.{Wire}
-use Rattle.wire_model.specs.Told.{MayConnect, IsBarred, Opened, IsIdle, Idle, HungUp}
+use Rattle.wire_model.specs.Told.{IsBarred, Opened, Idle}
 use Rattle.wire_model.proofs.Lifted.{on-on, on-then}
 use Rattle.fb_top.specs.declared.asking.AskFail.{AskFail}
 use Rattle.fb_top.specs.declared.asking.AskFail.TheVariants as ask
 use Rattle.fb_top.specs.declared.plan.PlanKind.{PlanKind}
-use Rattle.fb_top.specs.declared.plan.PlanKind.TheVariants.{NotBuilt, NoPartition}
+use Rattle.fb_top.specs.declared.plan.PlanKind.TheVariants.{NotBuilt}
 use Rattle.fb_top.specs.declared.run.RunError.{RunError}
 use Rattle.fb_top.specs.declared.run.RunError.TheVariants.{Memory, Output, Link, Unknown, Plan}
 use Rattle.fb_top.specs.declared.run.RunError.TheVariants as stop

@@ -1,13 +1,12 @@
 -- What stays of a port's places in a whole run of fbflash.
 use Rattle.std.proofs.Common.{◌≡◌, ◌≢◌, Bool, Option, Some, None, refl, sym, ap, ◌∙◌, subst, arith}
-use Rattle.wire_model.specs.Places.{Place, ImageAt, Stand, Stands, LastBy, IsLast, KeepsOthers, IsKept}
+use Rattle.wire_model.specs.Places.{Place, Stand, Stands, LastBy, IsLast, KeepsOthers, IsKept}
 use Rattle.fb_top.specs.declared.host.HostError.{HostError}
 use Rattle.fb_top.specs.declared.host.HostError.TheVariants as host
 use Rattle.fb_top.specs.declared.product.ProductError.TheVariants as flawed
 use Rattle.fb_top.specs.declared.run.RunError.TheVariants as stop
-use Rattle.fb_top.specs.HostWords.{FlashAllText}
 use Rattle.fb_top.specs.Installs.{IsEarly, status_of}
-use Rattle.fb_top.specs.Targets.{IsTurned, TurnedBy, KeepsBeside}
+use Rattle.fb_top.specs.Targets.{TurnedBy}
 
 -- a place that isn't the target isn't the last one that is told
 not_last : (stand : Option Stand) (last : Option Place) (place other : Place) → LastBy stand last place → Some place ≢ Some other → last ≢ Some other

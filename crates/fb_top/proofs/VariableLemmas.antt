@@ -1,6 +1,6 @@
 -- What a device says to the host's questions.
-use Rattle.std.proofs.Common.{◌≡◌, ℕ, zero, suc, ◌+◌, ◌<◌, ◌≤◌, Bool, true, false, not, ◌&&◌, ◌||◌, if◌then◌else◌, List, [], ◌∷◌, ◌++◌, length, map, Option, Some, None, true≢false, refl, sym, ap, ◌∙◌, subst, arith, nat_eq}
-use Rattle.std.specs.Prelude.{IsTrue, option_and_then, nat_le, codes, bytes_eq, flat_map, decimal}
+use Rattle.std.proofs.Common.{◌≡◌, ℕ, Bool, true, false, not, ◌&&◌, ◌||◌, if◌then◌else◌, List, [], ◌∷◌, ◌++◌, length, map, Option, Some, None, refl, sym, ap, ◌∙◌}
+use Rattle.std.specs.Prelude.{option_and_then, nat_le, codes, bytes_eq, flat_map}
 use Rattle.std.specs.List.{list_all, list_any}
 use Rattle.std.specs.Option.{option_or}
 use Rattle.std.specs.Map.{lookup}
@@ -14,7 +14,7 @@ use Rattle.dev_model.specs.declared.device.Physical.{Physical}
 use Rattle.dev_model.specs.declared.device.Logical.{Logical}
 use Rattle.dev_model.specs.declared.device.Variable.{Variable}
 use Rattle.dev_model.specs.Partitions.{has_slots, is_physical, is_logical, is_userspace}
-use Rattle.dev_model.specs.Variables.{Row, value, slotted_name, has_slot, plain_rows, device_rows, slot_rows, partition_rows, super_row, yes_or_no, with_slots_only}
+use Rattle.dev_model.specs.Variables.{Row, value, slotted_name, has_slot, plain_rows, slot_rows, partition_rows, super_row, yes_or_no, with_slots_only}
 use Rattle.fb_frame.specs.Slots.{letter}
 use Rattle.fb_top.specs.Questions.{kind_question}
 use Rattle.dev_model.specs.Validity.{IsValid, is_variable, is_value, own_names}

@@ -1,13 +1,12 @@
 -- A command of the host, and the reply that it hears.
-use Rattle.std.specs.Prelude.{◌≡◌, ◌⊎◌, ℕ, ◌<◌, ◌≤◌, List, [], ◌∷◌, length, Option, Some, None, IsTrue, codes}
+use Rattle.std.specs.Prelude.{◌≡◌, ◌⊎◌, ℕ, ◌<◌, List, [], ◌∷◌, Option, Some, None, IsTrue, codes}
 use Rattle.fb_frame.specs.Causes.{Rose}
 use Rattle.fb_message.specs.declared.reply.Reply.{Reply}
 use Rattle.fb_message.specs.declared.reply.Reply.TheVariants.{Okay, Fail, Load}
 use Rattle.fb_message.specs.CommandText.{CommandValue, GetVar, Download, Flash}
-use Rattle.dev_model.specs.declared.device.Dev.{Dev}
 use Rattle.dev_model.specs.Validity.{IsValid}
 use Rattle.wire_model.specs.Peers.{Peer, OfLink, OnLink}
-use Rattle.wire_model.specs.Says.{Loaded, says}
+use Rattle.wire_model.specs.Says.{says}
 use Rattle.wire_model.specs.Wire.{Wire}
 use Rattle.wire_model.specs.Halts.{Halts}
 use Rattle.wire_model.specs.FirstPath.{is_first_path}

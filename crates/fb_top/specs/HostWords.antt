@@ -1,5 +1,5 @@
 -- The words of fbflash's command line: `-s image:FILE flashall DIR`.
-use Rattle.std.specs.Prelude.{◌≡◌, ℕ, ◌<◌, Bool, ◌&&◌, List, [], ◌∷◌, length, drop, nat_lt, nat_eq, Option, Some, None, option_map, if◌then◌else◌, bytes_eq, codes}
+use Rattle.std.specs.Prelude.{ℕ, ◌&&◌, List, [], ◌∷◌, length, drop, nat_lt, nat_eq, Option, Some, None, option_map, if◌then◌else◌, bytes_eq, codes}
 use Rattle.std.specs.List.{starts_with}
 use Rattle.fb_top.specs.declared.host_words.FlashAll.{FlashAll}
 

@@ -1,20 +1,15 @@
 -- What fbflash does: the words' product on the device that the words' target stands for.
-use Rattle.std.specs.Prelude.{◌≡◌, ◌≢◌, ◌⊎◌, ℕ, Bool, false, List, Option, Some, None, Result, Ok, Err}
-use Rattle.std.specs.Str.{bytes_eq}
-use Rattle.fb_frame.specs.Causes.{Rose}
+use Rattle.std.specs.Prelude.{◌≡◌, ◌≢◌, ◌⊎◌, ℕ, List, Option, Some, None, Result, Ok, Err}
 use Rattle.dev_model.specs.declared.device.Dev.{Dev}
 use Rattle.flash_plan.specs.Files.{Files}
 use Rattle.wire_model.specs.Peers.{Peer, device_of}
 use Rattle.wire_model.specs.Places.{Place, ImageAt, Stand, Stands, Device, Bad, Nothing, IsNothing}
 use Rattle.fb_top.specs.declared.host.HostError.{HostError}
 use Rattle.fb_top.specs.declared.host.HostError.TheVariants as host
-use Rattle.fb_top.specs.declared.product.ProductError.{ProductError}
 use Rattle.fb_top.specs.declared.product.ProductError.TheVariants as flawed
-use Rattle.fb_top.specs.declared.run.RunError.{RunError}
 use Rattle.fb_top.specs.declared.run.RunError.TheVariants as stop
 use Rattle.fb_top.specs.HostWords.{FlashAllText}
 use Rattle.fb_top.specs.Products.{ProductValue, Fault, product_of}
-use Rattle.fb_top.specs.Asking.{IsCut}
 use Rattle.fb_top.specs.declared.product.Product.{Product}
 use Rattle.fb_top.specs.Runs.{installed, product_value, Quiet}
 use Rattle.fb_top.specs.Outcomes.{Outcome, Elsewhere, Flawed, Aimless, NoDevice, NoPlan, Refusing, IsOutcome}

@@ -1,16 +1,14 @@
 -- The plan of an installation (fastboot flashall), in the forms that are built: one flash of a physical
 -- partition, and a reboot.
-use Rattle.std.specs.Prelude.{ℕ, Bool, true, false, List, [], ◌∷◌, Option, Some, None, Result, Ok, Err, if◌then◌else◌, codes}
+use Rattle.std.specs.Prelude.{ℕ, Bool, true, false, List, [], ◌∷◌, Option, Some, None, Result, Ok, Err, if◌then◌else◌}
 use Rattle.dev_model.specs.declared.device.Dev.{Dev}
 use Rattle.dev_model.specs.declared.device.Mode.TheVariants.{System}
 use Rattle.dev_model.specs.declared.step.Step.{Step}
 use Rattle.dev_model.specs.declared.step.Step.TheVariants.{Put, Boot}
 use Rattle.dev_model.specs.Partitions.{has_slots, is_physical, is_logical}
-use Rattle.dev_model.specs.Steps.{run}
 use Rattle.fb_top.specs.declared.plan.PlanKind.{PlanKind}
 use Rattle.fb_top.specs.declared.plan.PlanKind.TheVariants.{NotBuilt, NoPartition}
-use Rattle.flash_plan.specs.Files.{Files}
-use Rattle.fb_top.specs.Products.{ProductValue, Fault, product_of}
+use Rattle.fb_top.specs.Products.{ProductValue}
 
 -- the line of a task, and why no plan is made of it
 abbrev pub PlanFault : Type 0

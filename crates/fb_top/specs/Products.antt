@@ -1,11 +1,10 @@
 -- The product of a directory (AOSP: android-info.txt, fastboot-info.txt version 1 and the images that it
 -- names), in the forms that are built: no requirement, one flash task, and one raw image.
-use Rattle.std.specs.Prelude.{◌≡◌, ℕ, ◌+◌, ◌-◌, ◌%◌, ◌<◌, ◌≤◌, Bool, true, false, not, ◌&&◌, ◌||◌, List, [], ◌∷◌, ◌++◌, length, take, drop, map, replicate, nat_le, nat_lt, nat_eq, ◌==◌, Option, Some, None, Result, Ok, Err, if◌then◌else◌, unwrap_or, slice_index, codes, option_and_then}
+use Rattle.std.specs.Prelude.{◌≡◌, ℕ, ◌-◌, ◌%◌, ◌<◌, ◌≤◌, Bool, false, not, ◌&&◌, ◌||◌, List, [], ◌∷◌, ◌++◌, length, take, drop, replicate, nat_lt, nat_eq, ◌==◌, Option, Some, None, Result, Ok, Err, if◌then◌else◌, unwrap_or, slice_index, codes}
 use Rattle.std.specs.List.{starts_with, ends_with}
-use Rattle.fb_frame.specs.NameText.{is_name, name_of}
+use Rattle.fb_frame.specs.NameText.{is_name}
 use Rattle.dev_model.specs.Options.{◌>>=◌}
 use Rattle.dev_model.specs.declared.cells.Cell.{Cell}
-use Rattle.dev_model.specs.declared.cells.Cell.TheVariants.{Byte}
 use Rattle.dev_model.specs.Images.{image, is_sparse, round_up}
 use Rattle.flash_plan.specs.Files.{Files, IsAbsent, IsLonger}
 use Rattle.fb_frame.specs.Causes.{Rose}

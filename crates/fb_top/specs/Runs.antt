@@ -7,7 +7,6 @@ use Rattle.dev_model.specs.declared.step.Step.{Step}
 use Rattle.dev_model.specs.declared.step.Step.TheVariants.{Put, Boot}
 use Rattle.dev_model.specs.declared.device.Mode.TheVariants.{System}
 use Rattle.dev_model.specs.Steps.{run}
-use Rattle.dev_model.specs.Refusals.{refusal_of}
 use Rattle.dev_model.specs.Validity.{IsValid}
 use Rattle.wire_model.specs.Peers.{Peer, Apart, Joined}
 use Rattle.wire_model.specs.Told.{MayConnect}

@@ -1,4 +1,4 @@
-use Rattle.std.proofs.Common.{ℕ, ◌≤◌, length, take, length-take, arith}
+use Rattle.std.proofs.Common.{ℕ, length, take, length-take, arith}
 use Rattle.fb_top.proofs.FlashLemmas.{Same-download, Downloaded-heard, untold-okay}
 use Rattle.fb_top.proofs.flashing.download.Goals as goal
 

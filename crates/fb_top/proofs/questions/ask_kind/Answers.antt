@@ -1,9 +1,4 @@
-use Rattle.std.proofs.Common.{◌≡◌, ◌≤◌, List, ℕ, ◌++◌, length, length-append, arith, subst, sym, ap, ◌∙◌}
-use Rattle.std.specs.Prelude.{IsTrue, codes}
-use Rattle.fb_frame.specs.NameText.{IsName}
-use Rattle.fb_message.specs.CommandText.{GetVar}
-use Rattle.wire_model.specs.FirstPath.{is_first_question}
-use Rattle.wire_model.specs.Replied.{is_steady}
+use Rattle.std.proofs.Common.{◌≡◌, ◌∙◌}
 use Rattle.fb_top.specs.Asking.{told_text}
 use Rattle.fb_top.specs.Questions.{kind_question}
 use Rattle.fb_top.proofs.QuestionLemmas.{IsTaken-question, LearnsKind-told, kind-asked}

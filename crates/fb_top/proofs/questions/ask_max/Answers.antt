@@ -1,4 +1,4 @@
-use Rattle.std.proofs.Common.{sym, ◌∙◌}
+use Rattle.std.proofs.Common.{◌∙◌}
 use Rattle.fb_top.proofs.QuestionLemmas.{LearnsMax-told, untold-max, unrefused-max}
 use Rattle.fb_top.proofs.questions.ask_max.Goals as goal
 

@@ -1,10 +1,8 @@
-use Rattle.std.proofs.Common.{◌≡◌, ◌⊎◌, inl, inr, ℕ, List, Option, Some, map, sym, ap, ◌∙◌, subst}
+use Rattle.std.proofs.Common.{inl, inr, map, subst}
 use Rattle.std.specs.Prelude.{option_map, string_bytes}
 use Rattle.wire_model.specs.Places.{ImageAt, Stands}
-use Rattle.fb_top.specs.Asking.{IsCut}
-use Rattle.fb_top.specs.HostWords.{FlashAllText, host_words}
-use Rattle.fb_top.specs.Installs.{IsAbsent, IsUntold}
-use Rattle.fb_top.specs.Outcomes.{outcome_of}
+use Rattle.fb_top.specs.HostWords.{host_words}
+use Rattle.fb_top.specs.Installs.{IsUntold}
 use Rattle.fb_top.specs.PlainPeers.{peer_of}
 use Rattle.fb_top.specs.PlainStand.{plain_stands}
 use Rattle.fb_top.proofs.RehearsalLemmas.{rehearses, keeps_images, cut_at, reports_at, keeps_all, keeps_still, keeps_or}
