@@ -143,6 +143,35 @@ fn rehearses_one_raw_image(rt: HostRuntime) -> Result<(), Fail> {
 }
 
 #[test]
+fn ends_where_the_disk_fails(rt: HostRuntime) -> Result<(), Fail> {
+    let alloc = rt.alloc();
+    let image = [0x11; 4096];
+    let before = device(alloc, 0, b"")?;
+    let after = device(alloc, 0, &image)?;
+    // The calls: open, read_at, write_at, sync. The third changes nothing, the fourth comes behind the bytes.
+    let cases: [(u64, &[u8]); 4] = [
+        (1, before.as_slice()),
+        (2, before.as_slice()),
+        (3, before.as_slice()),
+        (4, after.as_slice()),
+    ];
+    for (failing, file) in cases {
+        let words = words(alloc, &FLASHALL)?;
+        let mut disk = MemoryDisk::new(alloc, vec![in alloc; failing]?)?;
+        disk.add(alloc, "dev.img", before.as_slice())?;
+        let files = product(alloc, Some(&image))?;
+        let mut dir = MemoryDir::new(alloc, "product", files, Vec::new(alloc))?;
+        let mut out = MemorySink::new(alloc, 1000)?;
+        let done = rehearse(alloc, words.as_slice(), &mut dir, disk, &mut out);
+        assert_eq!(rt; done.status, 6);
+        assert_eq!(rt; done.ends, 0);
+        assert_eq!(rt; out.text(), b"error link\n".as_slice());
+        assert!(rt; done.disk.file("dev.img") == Some(file));
+    }
+    Ok(())
+}
+
+#[test]
 fn flashes_without_room_for_a_line(rt: HostRuntime) -> Result<(), Fail> {
     let alloc = rt.alloc();
     let image = [0x11; 4096];
