@@ -1,13 +1,12 @@
 -- What a connection hears, as the program goes on with it.
-use Rattle.std.proofs.Common.{◌≡◌, ◌≢◌, ℕ, Bool, true, false, cond, List, [], ◌∷◌, ◌++◌, length, Option, Some, None, refl, sym, ap, ◌∙◌, arith}
+use Rattle.std.proofs.Common.{◌≡◌, ◌≢◌, ℕ, Bool, true, false, cond, List, [], ◌∷◌, ◌++◌, length, Some, None, refl, sym, ap, ◌∙◌, arith}
 use Rattle.std.specs.Prelude.{◌==◌}
 use Rattle.std.proofs.lemmas.Bool.Decides.{nat_tests}
 use Rattle.fb_message.specs.declared.reply.Reply.{Reply}
 use Rattle.fb_message.specs.declared.reply.Reply.TheVariants.{Okay, Fail, Info, Text, Load}
-use Rattle.dev_model.specs.declared.device.Dev.{Dev}
 use Rattle.wire_model.specs.declared.answer.Answer.{Answer}
 use Rattle.wire_model.specs.Answers.{frames_of, due_of, answer_of}
-use Rattle.wire_model.specs.Says.{Loaded, Said}
+use Rattle.wire_model.specs.Says.{Said}
 use Rattle.wire_model.specs.Wire.{Wire, Command, Data, with_replies, fails, received, awaited, answered}
 
 -- FAIL was written

@@ -1,10 +1,10 @@
 -- What stands at the front of a list, as the program finds it.
-use Rattle.std.proofs.Common.{◌≡◌, ℕ, ◌+◌, ◌<◌, ◌≤◌, List, length, take, drop, Option, Some, None, sym, ap, ◌∙◌, arith}
+use Rattle.std.proofs.Common.{◌≡◌, ℕ, ◌+◌, ◌<◌, ◌≤◌, List, length, take, drop, Some, None, sym, ap, ◌∙◌, arith}
 use Rattle.std.proofs.lemmas.List.{drop-drop}
 use Rattle.std.specs.Int.{w64, from_be_bytes}
 use Rattle.std.proofs.lemmas.Bool.Decides.{nat_tests}
 use Rattle.fb_frame.specs.Framing.{announced, first_payload, behind_frame}
-use Rattle.wire_model.specs.Wire.{Item, TooLong, Payload, first_frame}
+use Rattle.wire_model.specs.Wire.{TooLong, Payload, first_frame}
 use Rattle.wire_model.proofs.InParts.{long-front, whole-front}
 
 told-length : (bytes front : List ℕ) (n : ℕ) → front ≡ take 8 bytes → n ≡ from_be_bytes w64 front → n ≡ announced bytes

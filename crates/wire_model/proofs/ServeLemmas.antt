@@ -1,5 +1,5 @@
 -- A connection that hears one item after the other.
-use Rattle.std.proofs.Common.{◌≡◌, ◌≢◌, ◌⊎◌, inl, inr, ℕ, suc, ◌+◌, ◌-◌, ◌^◌, ◌<◌, ◌≤◌, Bool, true, false, List, [], ◌∷◌, ◌++◌, length, take, Option, Some, None, refl, sym, ap, ◌∙◌, arith}
+use Rattle.std.proofs.Common.{◌≡◌, ◌≢◌, ℕ, suc, ◌+◌, ◌-◌, ◌^◌, ◌<◌, ◌≤◌, Bool, true, false, List, [], length, take, Some, None, refl, sym, ap, ◌∙◌, arith}
 use Rattle.std.specs.Prelude.{nat_le, ◌==◌, ◌||◌, if◌then◌else◌}
 use Rattle.std.proofs.lemmas.Bool.Decides.{nat_tests}
 use Rattle.std.proofs.lemmas.List.{length-take}
@@ -8,7 +8,7 @@ use Rattle.wire_model.specs.declared.connection.Connection.{Connection}
 use Rattle.wire_model.specs.declared.served.Served1.{Served1}
 use Rattle.wire_model.specs.Wire.{Wire, Item, fresh, front, heard, shut, going, settled, joined, limited, takes, serves}
 use Rattle.wire_model.specs.Connections.{phase_of, wire_of, wire_at, served_of}
-use Rattle.wire_model.proofs.InParts.{placed, heard-placed, settled-none, settled-some, choose-true, choose-false, told, keeps, after-open}
+use Rattle.wire_model.proofs.InParts.{placed, heard-placed, settled-none, settled-some, choose-true, choose-false, keeps, after-open}
 
 -- nothing whole stands at the front
 pub serve-none : (k taken : ℕ) (rest : List ℕ) (now : Connection) → front (phase_of now.phase) rest ≡ None →

@@ -1,6 +1,5 @@
 -- What the program makes of a wire state: the connection without the bytes that it took.
 use Rattle.std.specs.Prelude.{ℕ, List, []}
-use Rattle.fb_message.specs.declared.reply.Reply.{Reply}
 use Rattle.wire_model.specs.declared.connection.Connection.{Connection}
 use Rattle.wire_model.specs.declared.connection.Phase.{Phase}
 use Rattle.wire_model.specs.declared.connection.Phase.TheVariants as code

@@ -1,7 +1,6 @@
-use Rattle.std.proofs.Common.{◌≡◌, ◌++◌, [], Some, None, refl, ap, ◌∙◌}
+use Rattle.std.proofs.Common.{◌≡◌, ◌++◌, [], ap, ◌∙◌}
 use Rattle.std.proofs.lemmas.Result.{IfOk-weaker}
 use Rattle.fb_message.specs.CommandText.{command_of}
-use Rattle.wire_model.specs.declared.answer.Answer.{Answer}
 use Rattle.wire_model.specs.declared.connection.Connection.{Connection}
 use Rattle.wire_model.specs.Answers.{answer_of}
 use Rattle.wire_model.specs.Says.{says}

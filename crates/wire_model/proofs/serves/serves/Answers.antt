@@ -1,7 +1,6 @@
 use Rattle.std.proofs.Common.{◌≡◌, ◌^◌, ℕ, min, length, take, sym, ap, ◌∙◌, arith}
 use Rattle.std.specs.Prelude.{◌==◌, ◌||◌}
 use Rattle.std.proofs.lemmas.List.{take_min}
-use Rattle.wire_model.specs.declared.served.Served1.{Served1}
 use Rattle.wire_model.proofs.ServeLemmas.{serves-all}
 use Rattle.wire_model.proofs.serves.serves.Goals as goal
 use Rattle.wire_model.proofs.serves.serves.Goals.{then-last, else-last}

@@ -1,5 +1,5 @@
-use Rattle.std.proofs.Common.{◌≡◌, ◌-◌, length, sym, ap, ◌∙◌}
-use Rattle.wire_model.specs.Connections.{item_of, served_of, wire_at, wire_of}
+use Rattle.std.proofs.Common.{◌-◌, length, sym, ap, ◌∙◌}
+use Rattle.wire_model.specs.Connections.{item_of, served_of}
 use Rattle.wire_model.proofs.ServeLemmas.{serve-none, serve-shut, serve-open}
 use Rattle.wire_model.proofs.serves.settled.Goals as goal
 
