@@ -1,9 +1,9 @@
 -- The replies of a valid device are short.
-use Rattle.std.proofs.Common.{◌≡◌, ℕ, zero, suc, ◌+◌, ◌*◌, ◌/◌, ◌%◌, ◌^◌, ◌<◌, ◌≤◌, Bool, true, false, cond, Option, Some, None, List, [], ◌∷◌, ◌++◌, length, take, map, refl, sym, ap, ◌∙◌, subst, arith, length-append, length-take}
+use Rattle.std.proofs.Common.{◌≡◌, ℕ, suc, ◌+◌, ◌*◌, ◌%◌, ◌^◌, ◌<◌, ◌≤◌, Bool, true, false, cond, Option, Some, None, List, [], ◌∷◌, ◌++◌, length, take, map, refl, ap, ◌∙◌, arith, length-append, length-take}
 use Rattle.std.specs.Prelude.{◌&&◌, ◌||◌, not, nat_le, nat_lt, ◌==◌, All, codes, filter, flat_map, filter_map, option_map, option_and_then, option_to_list, bytes_eq, decimal, slice_index, ◌-◌, if◌then◌else◌}
 use Rattle.std.specs.Option.{option_or}
 use Rattle.std.specs.List.{list_all, list_any, cons_option}
-use Rattle.std.specs.Fmt.{digits, digits_onto, digit_glyph}
+use Rattle.std.specs.Fmt.{digits}
 use Rattle.std.proofs.lemmas.Fmt.{length-decimal-le}
 use Rattle.std.proofs.lemmas.Bool.Decides.{nat_tests}
 use Rattle.std.proofs.lemmas.List.Elements.{All-cons, All-nil, All-head, All-tail}
@@ -37,6 +37,7 @@ use Rattle.wire_model.specs.Says.{Loaded, says, decides, awaits, tells, tells_al
 use Rattle.wire_model.specs.Laws.{SaysReplies}
 use Rattle.wire_model.specs.Told.{IsShort, AreShort, replies_to, IsNoLoad}
 use Rattle.wire_model.proofs.Lifted.{of-of}
+use Rattle.wire_model.proofs.DigitLemmas.{digits-short}
 use Rattle.wire_model.proofs.ShortLemmas.{says-short}
 
 -- a variable's name and text fit a reply together
@@ -52,28 +53,9 @@ fit-append [] ys f g = g
 fit-append (x ∷ xs) ys f g = (f.0, fit-append xs ys f.1 g)
 
 -- Numbers.
-top : ℕ → ℕ
-top zero = 1
-top (suc k) = 16 * top k
-
-onto-step : (b : Bool) (f k n : ℕ) (acc : List ℕ) → 0 < k → length (digits_onto f 16 true (n / 16) (digit_glyph true (n % 16) ∷ acc)) ≤ k + length acc → length (cond b (digit_glyph true (n % 16) ∷ acc) (digits_onto f 16 true (n / 16) (digit_glyph true (n % 16) ∷ acc))) ≤ k + length acc
-onto-step true f k n acc h g = omega arith
-onto-step false f k n acc h g = g
-
-onto-short : (f k n : ℕ) (acc : List ℕ) → n < top (suc k) → length (digits_onto f 16 true n acc) ≤ suc k + length acc
-unfolding top
-onto-short zero k n acc h = omega arith
-onto-short (suc f) zero n acc h =
-    let e : (n / 16 == 0) ≡ true = grind (arith, nat_tests) in
-    subst (λ b. length (cond b (digit_glyph true (n % 16) ∷ acc) (digits_onto f 16 true (n / 16) (digit_glyph true (n % 16) ∷ acc))) ≤ 1 + length acc) (sym e) (omega arith)
-onto-short (suc f) (suc k) n acc h =
-    let ih = onto-short f k (n / 16) (digit_glyph true (n % 16) ∷ acc) (omega (arith, h)) in
-    onto-step (n / 16 == 0) f (suc (suc k)) n acc (omega arith) (omega (arith, ih))
-
 size-short : (n : ℕ) → n < 2 ^ 64 → length (size_text n) ≤ 18
-unfolding digits top
 size-short n h =
-    let d = onto-short 64 15 n [] h in
+    let d = digits-short n h in
     omega (arith, d, length-append (codes "0x") (digits 16 true n))
 
 yes-short : (b : Bool) → length (yes_or_no b) ≤ 3

@@ -2,6 +2,7 @@ pub mod TableFile
 pub mod Says
 pub mod Answers
 pub mod Wire
+pub mod Connections
 pub mod Halts
 pub mod Laws
 pub mod Rows

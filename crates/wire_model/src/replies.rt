@@ -15,7 +15,7 @@ use fb_frame::number::write_hex8;
 use std::alloc::Global;
 
 /// Both lists, one after the other.
-fn joined(alloc: Global, head: &[u8], tail: &[u8]) -> Result<Vec<u8>, Memory>
+pub(crate) fn joined(alloc: Global, head: &[u8], tail: &[u8]) -> Result<Vec<u8>, Memory>
     ensures { IfOk result (λ both. both.items ≡ head.now ++ tail.now) }
 {
     let mut both = Vec::from_slice(alloc, head).map_err(|_| Memory)?;

@@ -1,0 +1,377 @@
+use crate::served::Served1;
+use crate::serves::serves;
+use dev_model::cells::ByteList;
+use dev_model::copies::copy_bytes;
+use dev_model::device::{BothFlags, Dev, Mode, Physical, SlotFlags, Variable};
+use fb_frame::framing::frame_head;
+use fb_frame::items::Items;
+use fb_frame::name::Name;
+use fb_frame::slot::Slot;
+use fb_frame::tables::{TableGeometry, TableGroup};
+use fb_frame::word::Word;
+use std::alloc::{AllocError, Global};
+use std::test::Fail;
+
+/// The flags of a slot that has so many retries.
+const fn flags(retries: u8) -> SlotFlags {
+    SlotFlags {
+        successful: false,
+        unbootable: false,
+        retries,
+    }
+}
+
+fn filled(alloc: Global, len: usize, b: u8) -> Result<ByteList, AllocError> {
+    let mut bytes = Vec::new(alloc);
+    bytes.resize(len, b)?;
+    Ok(Items::from_vec(bytes))
+}
+
+fn add(alloc: Global, parts: &mut Items<Physical>, name: &[u8], len: usize) -> Result<(), Fail> {
+    let name = Name::read(name).ok_or("a name")?;
+    let bytes = filled(alloc, len, 0xEE)?;
+    parts.push(Physical { name, bytes })?;
+    Ok(())
+}
+
+/// A device without slots and without super, whose partition `boot` has 16,384 bytes.
+fn plain(alloc: Global) -> Result<Dev, Fail> {
+    let mut physical = Items::new(alloc);
+    add(alloc, &mut physical, b"boot", 16_384)?;
+    Ok(Dev {
+        product: copy_bytes(alloc, b"falcon")?,
+        serial: copy_bytes(alloc, b"S1")?,
+        vars: Items::new(alloc),
+        slots: 0,
+        active: Slot::A,
+        flags: BothFlags {
+            a: flags(0),
+            b: flags(0),
+        },
+        locked: false,
+        mode: Mode::Bootloader,
+        max: 131_072,
+        physical,
+        super_name: None,
+        geometry: TableGeometry {
+            max_size: 0,
+            slots: 0,
+        },
+        groups: Items::new(alloc),
+        logical: Items::new(alloc),
+        unit: 0,
+        units: 0,
+        super_size: 0,
+        table_minor: 0,
+        table_flags: 0,
+    })
+}
+
+/// A device with two slots and a super of 59 units of 65,536 bytes, in userspace mode.
+fn slotted(alloc: Global, limit: u64) -> Result<Dev, Fail> {
+    let mut dev = plain(alloc)?;
+    dev.physical = Items::new(alloc);
+    for (name, len) in [
+        (b"boot_a".as_slice(), 262_144),
+        (b"boot_b", 262_144),
+        (b"userdata", 131_072),
+    ] {
+        add(alloc, &mut dev.physical, name, len)?;
+    }
+    let name = Word::read(b"version-bootloader").ok_or("a word")?;
+    let text = copy_bytes(alloc, b"1.25")?;
+    dev.vars.push(Variable { name, text })?;
+    let default = Name::read(b"default").ok_or("a name")?;
+    dev.groups.push(TableGroup {
+        name: default,
+        limit,
+    })?;
+    dev.slots = 2;
+    dev.flags = BothFlags {
+        a: flags(7),
+        b: flags(7),
+    };
+    dev.mode = Mode::Userspace;
+    dev.super_name = Name::read(b"super");
+    dev.geometry = TableGeometry {
+        max_size: 65_536,
+        slots: 2,
+    };
+    dev.unit = 65_536;
+    dev.units = 59;
+    dev.super_size = 4_194_304;
+    Ok(dev)
+}
+
+/// The handshake, and then each line as a frame.
+fn stream(alloc: Global, shake: &str, lines: &str) -> Result<Vec<u8>, AllocError> {
+    let mut bytes = Vec::from_slice(alloc, shake.as_bytes())?;
+    for line in lines.lines() {
+        let head = frame_head(line.len() as u64);
+        bytes.extend_from_slice(head.as_slice())?;
+        bytes.extend_from_slice(line.as_bytes())?;
+    }
+    Ok(bytes)
+}
+
+/// A session: the handshake, the frames that the host sends, those that the device answers, and whether
+/// the connection is closed then. Each line is the payload of a frame.
+type Session = (&'static str, &'static str, &'static str, bool);
+
+fn holds(alloc: Global, dev: &Dev, session: Session) -> Result<bool, Fail> {
+    let (shake, sent, answered, closed) = session;
+    let sent = stream(alloc, shake, sent)?;
+    let answered = stream(alloc, "FB01", answered)?;
+    let served = serves(alloc, dev, sent.as_slice())?;
+    Ok(served.out.as_slice() == answered.as_slice() && served.closed == closed)
+}
+
+#[test]
+fn answers_a_plain_device(rt: HostRuntime) -> Result<(), Fail> {
+    let dev = plain(rt.alloc())?;
+    for session in [
+        ("FB01", "getvar:version", "OKAY0.4", false),
+        ("FB02", "getvar:version", "OKAY0.4", false),
+        ("FB00", "getvar:version", "", true),
+        ("FBx1", "getvar:version", "", true),
+        ("FB0", "", "", false),
+        ("FB01", "\n", "FAILunknown command", false),
+        (
+            "FB01",
+            "download:00000004\n\nabc\nd",
+            "DATA00000004\nOKAY",
+            false,
+        ),
+        (
+            "FB01",
+            "download:00000004\nabcde\ngetvar:version",
+            "DATA00000004\nFAILtoo much data",
+            true,
+        ),
+        (
+            "FB01",
+            "download:0000000A\ndownload:000000004",
+            "FAILunknown command\nFAILunknown command",
+            false,
+        ),
+        (
+            "FB01",
+            "download:00020001\ndownload:00020000",
+            "FAILdownload too large\nDATA00020000",
+            false,
+        ),
+        (
+            "FB01",
+            "flash:boot\ndownload:00000000\nflash:xyz\nflash:boot",
+            "FAILnothing downloaded\nDATA00000000\nOKAY\nFAILno such partition\nFAILbad image",
+            false,
+        ),
+        (
+            "FB01",
+            "set_active:a\nflashing unlock\nflashing get_unlock_ability\ncreate-logical-partition:x:4096",
+            "FAILno slots\nFAILunlock locally\nOKAY0\nFAILuserspace only",
+            false,
+        ),
+        (
+            "FB01",
+            "flashing lock\nflashing lock\nflash:boot\nerase:boot\nset_active:a\nupdate-super:super\ngetvar:unlocked",
+            "OKAY\nFAILalready locked\nFAILlocked\nFAILlocked\nFAILlocked\nFAILlocked\nOKAYno",
+            false,
+        ),
+        (
+            "FB01",
+            "getvar:product\ngetvar:partition-size:boot\ngetvar:current-slot\ngetvar:has-slot:boot",
+            "OKAYfalcon\nOKAY0x4000\nFAILunknown variable\nOKAYno",
+            false,
+        ),
+        (
+            "FB01",
+            "getvar:all",
+            "INFOversion:0.4\nINFOproduct:falcon\nINFOserialno:S1\nINFOsecure:no\nINFOunlocked:yes\nINFOslot-count:0\nINFOmax-download-size:0x20000\nINFOis-userspace:no\nINFOpartition-size:boot:0x4000\nINFOpartition-type:boot:raw\nINFOis-logical:boot:no\nINFOhas-slot:boot:no\nOKAY",
+            false,
+        ),
+        ("FB01", "continue\ngetvar:version", "OKAY", true),
+        ("FB01", "reboot-fastboot\n", "OKAY", true),
+    ] {
+        assert!(rt; holds(rt.alloc(), &dev, session)?, "{}", session.1);
+    }
+    Ok(())
+}
+
+#[test]
+fn answers_a_slotted_device(rt: HostRuntime) -> Result<(), Fail> {
+    let dev = slotted(rt.alloc(), 0)?;
+    for session in [
+        (
+            "FB01",
+            "getvar:current-slot\ngetvar:slot-count\ngetvar:super-partition-name\ngetvar:version-bootloader\ngetvar:is-userspace",
+            "OKAYa\nOKAY2\nOKAYsuper\nOKAY1.25\nOKAYyes",
+            false,
+        ),
+        (
+            "FB01",
+            "getvar:has-slot:boot\ngetvar:has-slot:userdata\ngetvar:has-slot:boot_a\ngetvar:has-slot:xyz\ngetvar:partition-size:super",
+            "OKAYyes\nOKAYno\nOKAYno\nFAILunknown variable\nFAILunknown variable",
+            false,
+        ),
+        (
+            "FB01",
+            "set_active:b\ngetvar:current-slot\ngetvar:slot-retry-count:b",
+            "OKAY\nOKAYb\nOKAY7",
+            false,
+        ),
+        (
+            "FB01",
+            "create-logical-partition:x:2621440\ncreate-logical-partition:y:1310720\ncreate-logical-partition:y:1245184\ncreate-logical-partition:x:0\ncreate-logical-partition:z:1",
+            "OKAY\nFAILnot enough space\nOKAY\nFAILname taken\nFAILnot enough space",
+            false,
+        ),
+        (
+            "FB01",
+            "create-logical-partition:x:4097\ngetvar:partition-size:x\ncreate-logical-partition:y:69632\nerase:x\ndelete-logical-partition:x\nresize-logical-partition:y:131073\ngetvar:partition-size:y\ngetvar:partition-size:x",
+            "OKAY\nOKAY0x2000\nOKAY\nOKAY\nOKAY\nOKAY\nOKAY0x21000\nFAILunknown variable",
+            false,
+        ),
+        (
+            "FB01",
+            "create-logical-partition:boot_a:0\ncreate-logical-partition:super:0\ncreate-logical-partition:x:18446744073709551615\ndelete-logical-partition:boot_a\nresize-logical-partition:x:0",
+            "FAILname taken\nFAILname taken\nFAILnot enough space\nFAILno such partition\nFAILno such partition",
+            false,
+        ),
+        (
+            "FB01",
+            "update-super:super\ndownload:00000001\nx\nupdate-super:other\nupdate-super:super:wipe\nflash:super",
+            "FAILnothing downloaded\nDATA00000001\nOKAY\nFAILno such partition\nFAILbad table\nFAILno such partition",
+            false,
+        ),
+        (
+            "FB01",
+            "create-logical-partition:system_b:0\ngetvar:all",
+            "OKAY\nINFOversion:0.4\nINFOproduct:falcon\nINFOserialno:S1\nINFOsecure:no\nINFOunlocked:yes\nINFOcurrent-slot:a\nINFOslot-count:2\nINFOmax-download-size:0x20000\nINFOis-userspace:yes\nINFOsuper-partition-name:super\nINFOversion-bootloader:1.25\nINFOslot-successful:a:no\nINFOslot-unbootable:a:no\nINFOslot-retry-count:a:7\nINFOslot-successful:b:no\nINFOslot-unbootable:b:no\nINFOslot-retry-count:b:7\nINFOpartition-size:boot_a:0x40000\nINFOpartition-type:boot_a:raw\nINFOis-logical:boot_a:no\nINFOpartition-size:boot_b:0x40000\nINFOpartition-type:boot_b:raw\nINFOis-logical:boot_b:no\nINFOpartition-size:userdata:0x20000\nINFOpartition-type:userdata:raw\nINFOis-logical:userdata:no\nINFOpartition-size:system_b:0x0\nINFOpartition-type:system_b:raw\nINFOis-logical:system_b:yes\nINFOhas-slot:boot:yes\nINFOhas-slot:userdata:no\nINFOhas-slot:system:yes\nOKAY",
+            false,
+        ),
+    ] {
+        assert!(rt; holds(rt.alloc(), &dev, session)?, "{}", session.1);
+    }
+    let sent = "create-logical-partition:x:2621440\ncreate-logical-partition:y:1245184";
+    let limited = slotted(rt.alloc(), 3_862_528)?;
+    assert!(rt;
+        holds(
+            rt.alloc(),
+            &limited,
+            ("FB01", sent, "OKAY\nFAILgroup full", false)
+        )?
+    );
+    let mut booted = slotted(rt.alloc(), 0)?;
+    booted.mode = Mode::Bootloader;
+    let refused = "FAILuserspace only\nFAILuserspace only";
+    assert!(rt; holds(rt.alloc(), &booted, ("FB01", sent, refused, false))?);
+    Ok(())
+}
+
+/// A handshake, some frames, a frame of so many `z`, and some frames.
+fn stream_around(
+    alloc: Global,
+    before: &str,
+    len: usize,
+    behind: &str,
+) -> Result<Vec<u8>, AllocError> {
+    let mut bytes = stream(alloc, "FB01", before)?;
+    let head = frame_head(len as u64);
+    bytes.extend_from_slice(head.as_slice())?;
+    let long = filled(alloc, len, b'z')?;
+    bytes.extend_from_slice(long.as_slice())?;
+    let more = stream(alloc, "", behind)?;
+    bytes.extend_from_slice(more.as_slice())?;
+    Ok(bytes)
+}
+
+#[test]
+fn answers_long_frames(rt: HostRuntime) -> Result<(), Fail> {
+    let alloc = rt.alloc();
+    let dev = plain(alloc)?;
+    for (before, len, behind, answered, closed) in [
+        ("", 4096, "", "FAILunknown command", false),
+        ("", 4097, "", "FAILcommand too long", true),
+        (
+            "download:00004000",
+            16_384,
+            "flash:boot",
+            "DATA00004000\nOKAY\nOKAY",
+            false,
+        ),
+        (
+            "download:00004001",
+            16_385,
+            "flash:boot",
+            "DATA00004001\nOKAY\nFAILimage too large",
+            false,
+        ),
+    ] {
+        let sent = stream_around(alloc, before, len, behind)?;
+        let want = stream(alloc, "FB01", answered)?;
+        let served = serves(alloc, &dev, sent.as_slice())?;
+        assert_eq!(rt; served.out.as_slice(), want.as_slice(), "{answered}");
+        assert_eq!(rt; served.closed, closed, "{answered}");
+    }
+    Ok(())
+}
+
+/// The one partition's bytes.
+fn boot_of(served: &Served1) -> &[u8] {
+    match served.after.physical.as_slice() {
+        [boot] => boot.bytes.as_slice(),
+        _ => b"".as_slice(),
+    }
+}
+
+/// Whether the device answers exactly these bytes.
+fn gives(alloc: Global, dev: &Dev, sent: &[u8], want: &[u8]) -> Result<bool, Fail> {
+    let served = serves(alloc, dev, sent)?;
+    Ok(served.out.as_slice() == want)
+}
+
+/// Whether the device answers its handshake alone to each front of these bytes.
+fn is_quiet(alloc: Global, dev: &Dev, sent: &[u8]) -> Result<bool, Fail> {
+    for n in 0..sent.len() {
+        if !gives(alloc, dev, &sent[..n], b"FB01")? {
+            return Ok(false);
+        }
+    }
+    Ok(true)
+}
+
+#[test]
+fn answers_the_last_byte(rt: HostRuntime) -> Result<(), Fail> {
+    let dev = plain(rt.alloc())?;
+    let sent = b"FB01\0\0\0\0\0\0\0\x0egetvar:version";
+    assert!(rt; is_quiet(rt.alloc(), &dev, sent)?);
+    assert!(rt; gives(rt.alloc(), &dev, sent, b"FB01\0\0\0\0\0\0\0\x07OKAY0.4")?);
+    Ok(())
+}
+
+/// What a device gives for these frames.
+fn served_of(alloc: Global, sent: &str) -> Result<Served1, Fail> {
+    let dev = plain(alloc)?;
+    let sent = stream(alloc, "FB01", sent)?;
+    Ok(serves(alloc, &dev, sent.as_slice())?)
+}
+
+/// These bytes, zeros up to a block, and 0xEE up to four blocks.
+fn flashed(alloc: Global, front: &[u8]) -> Result<Vec<u8>, AllocError> {
+    let mut bytes = Vec::from_slice(alloc, front)?;
+    bytes.resize(4096, 0)?;
+    bytes.resize(16_384, 0xEE)?;
+    Ok(bytes)
+}
+
+#[test]
+fn leaves_the_device(rt: HostRuntime) -> Result<(), Fail> {
+    let sent = "download:00000003\nabc\nflash:boot\nreboot\ngetvar:version";
+    let served = served_of(rt.alloc(), sent)?;
+    let want = flashed(rt.alloc(), b"abc")?;
+    assert!(rt; served.closed);
+    assert_eq!(rt; served.after.mode, Mode::System);
+    assert!(rt; boot_of(&served) == want.as_slice());
+    Ok(())
+}
