@@ -4,6 +4,7 @@ ghost use Rattle.fb_frame.specs.Framing.{frame};
 ghost use Rattle.fb_frame.specs.Causes.{HasCause, Rose};
 ghost use Rattle.wire_model.specs.Places.{IsKept, Appended, AppendedHead, AppendedReply};
 ghost use Rattle.wire_model.specs.Replied.{Replied};
+ghost use Rattle.fb_link.specs.Broken.{AppendedPart};
 ghost use Rattle.wire_model.specs.Told.{Sent, LeftBy, Heard, IsHead, HeardHead, HeardReply, HungUp, MaySend, Passes, Gives, Owes, Idle, Answers, AreShort, Asked, IsOkay, Did, DidSo};
 
 use crate::port::{LinkFault, Port};
@@ -41,7 +42,7 @@ pub enum HearError {
 }
 
 /// Receives as many bytes as the buffer holds, in as many calls as the port wants.
-#[tactic(auto, using(wire_model::proofs::ToldLemmas::hear_loop, wire_model::proofs::KeptLemmas::kept, wire_model::proofs::KeptLemmas::grown))]
+#[tactic(auto, using(wire_model::proofs::ToldLemmas::hear_loop, wire_model::proofs::KeptLemmas::kept, wire_model::proofs::KeptLemmas::grown, crate::proofs::BrokenLemmas::parts))]
 pub fn recv_all<P: Port>(port: &mut P, buf: &mut [u8]) -> Result<(), HearError>
     requires up { IsTrue (P.up port.old) }
     requires gives { Gives (P.peer port.old) (length buf.old) }
@@ -52,6 +53,7 @@ pub fn recv_all<P: Port>(port: &mut P, buf: &mut [u8]) -> Result<(), HearError>
     ensures gone { IsErrOf result HearError.Ended → P.peer port.new ≡ None }
     ensures kept { IsKept (P.aimed port.old) (P.aimed port.new) (P.last port.old) (P.last port.new) (P.stands port.old) (P.stands port.new) }
     ensures heard { OnOk result (Appended (P.heard port.old) (P.heard port.new) buf.new) }
+    ensures part { OnErr result (AppendedPart (length buf.old) (P.heard port.old) (P.heard port.new)) }
     ensures later { P.faults port.old ≤ P.faults port.new }
     ensures ends { P.ends port.old ≤ P.ends port.new }
     ensures cause { IsErrOf result HearError.Link → Rose (P.faults port.old) (P.faults port.new) }
