@@ -1,5 +1,5 @@
 -- What was heard and shown before a command's end.
-use Rattle.std.proofs.Common.{◌≡◌, ℕ, ◌+◌, ◌<◌, ◌≤◌, Bool, true, false, List, [], ◌∷◌, ◌++◌, length, take, Option, Some, None, refl, sym, ap, ◌∙◌, subst, arith, append-nil, length-append, length-take}
+use Rattle.std.proofs.Common.{◌≡◌, inl, inr, ℕ, ◌+◌, ◌<◌, ◌≤◌, Bool, true, false, List, [], ◌∷◌, ◌++◌, length, take, Option, Some, None, refl, sym, ap, ◌∙◌, subst, arith, append-nil, length-append, length-take}
 use Rattle.std.specs.Prelude.{Result, Err, IsErrOf, codes, nat_le, nat_lt}
 use Rattle.std.specs.List.{list_all}
 use Rattle.std.proofs.lemmas.Bool.Decides.{nat_tests}
@@ -22,7 +22,7 @@ use Rattle.wire_model.proofs.OneFrames.{length-frame}
 use Rattle.fb_link.specs.Lines.{shown_line, shown_lines}
 use Rattle.fb_link.specs.Heard.{HeardLines, HeardEnd}
 use Rattle.fb_link.specs.Concluded.{Concluded, Finished}
-use Rattle.fb_link.specs.Broken.{StandsFor, HeardInstead, BrokeOff, LineInPart, ShownInPart, HeardAtMost, AppendedPart, HeardAlone}
+use Rattle.fb_link.specs.Broken.{IsCut, StandsFor, HeardInstead, BrokeOff, LineInPart, ShownInPart, HeardAtMost, AppendedPart, HeardAlone}
 use Rattle.fb_link.specs.declared.replies.LinkError.{LinkError}
 use Rattle.fb_link.specs.declared.replies.LinkError.TheVariants as error
 use Rattle.fb_link.proofs.EndLemmas.{all-snoc, frames-snoc, lines-snoc, appended-reply}
@@ -41,31 +41,39 @@ part-end a b c n bytes p e f = record {
   bytes = subst (Appended a c) (append-nil p.part) (Appended-append a b c p.part [] p.bytes (subst (Appended b c) f e));
 }
 
-pub part-wider : (a b : Option (List ℕ)) (n m : ℕ) → n ≤ m → AppendedPart n a b → AppendedPart m a b
-part-wider a b n m h p = record { part = p.part; short = omega (arith, h, p.short); bytes = p.bytes }
-
-pub part-behind : (a b c : Option (List ℕ)) (n k : ℕ) → AppendedHead a b n → AppendedPart k b c → k ≤ 256 → AppendedPart 264 a c
+-- a reply that is cut in its head, or behind it
+cut-text : (a b c : Option (List ℕ)) (n k : ℕ) → AppendedHead a b n → AppendedPart k b c → 4 ≤ n → n ≤ 256 → k ≤ n → (rest : List ℕ) × IsCut rest × Appended a c rest
 unfolding AppendedHead
-part-behind a b c n k f p h = record {
-  part = head n ++ p.part;
-  short = omega (arith, length-append (head n) p.part, p.short, h);
-  bytes = Appended-append a b c (head n) p.part f p.bytes;
-}
+cut-text a b c n k f p long short h = (
+  head n ++ p.part,
+  inr (n, p.part, refl, long, short, omega (arith, p.short, h)),
+  Appended-append a b c (head n) p.part f p.bytes,
+)
 
 -- What was heard in place of a reply.
-pub instead-link : (a b : Option (List ℕ)) → AppendedPart 264 a b → HeardInstead error.Link a b
-instead-link a b p = record { rest = p.part; stands = (omega arith, p.short); bytes = p.bytes }
+pub instead-link : (a b : Option (List ℕ)) → AppendedPart 8 a b → HeardInstead error.Link a b
+instead-link a b p = record { rest = p.part; stands = (omega arith, inl p.short); bytes = p.bytes }
 
-pub instead-end : (a b : Option (List ℕ)) → AppendedPart 264 a b → HeardInstead error.Ended a b
-instead-end a b p = record { rest = p.part; stands = (omega arith, p.short); bytes = p.bytes }
+pub instead-end : (a b : Option (List ℕ)) → AppendedPart 8 a b → HeardInstead error.Ended a b
+instead-end a b p = record { rest = p.part; stands = (omega arith, inl p.short); bytes = p.bytes }
+
+pub instead-link-text : (a b c : Option (List ℕ)) (n k : ℕ) → AppendedHead a b n → AppendedPart k b c → 4 ≤ n → n ≤ 256 → k ≤ n → HeardInstead error.Link a c
+instead-link-text a b c n k f p long short h =
+    let t = cut-text a b c n k f p long short h in
+    record { rest = t.0; stands = (omega arith, t.1); bytes = t.2 }
+
+pub instead-end-text : (a b c : Option (List ℕ)) (n k : ℕ) → AppendedHead a b n → AppendedPart k b c → 4 ≤ n → n ≤ 256 → k ≤ n → HeardInstead error.Ended a c
+instead-end-text a b c n k f p long short h =
+    let t = cut-text a b c n k f p long short h in
+    record { rest = t.0; stands = (omega arith, t.1); bytes = t.2 }
 
 pub instead-length : (a b : Option (List ℕ)) (n : ℕ) → AppendedHead a b n → HeardInstead (error.BadLength n) a b
 unfolding AppendedHead
 instead-length a b n f = record { rest = head n; stands = (omega arith, refl); bytes = f }
 
-pub instead-reply : (a b : Option (List ℕ)) (bytes : List ℕ) → length bytes ≤ 256 → AppendedReply a b bytes → HeardInstead (error.BadReply bytes) a b
+pub instead-reply : (a b : Option (List ℕ)) (bytes : List ℕ) → 4 ≤ length bytes → length bytes ≤ 256 → AppendedReply a b bytes → HeardInstead (error.BadReply bytes) a b
 unfolding AppendedReply
-instead-reply a b bytes h f = record { rest = frame bytes; stands = (omega arith, h, refl); bytes = f }
+instead-reply a b bytes l h f = record { rest = frame bytes; stands = (omega arith, l, h, refl); bytes = f }
 
 -- an error that is handed on is the one that was met
 pub handed-on : {T U E : Type 0} (on : Result T E) (x met wanted : E) → on ≡ Err x → x ≡ met → on ≡ Err wanted → ◌≡◌ {A = Result U E} (Err met) (Err wanted)
@@ -74,10 +82,11 @@ handed-on {T = T} {E = E} on x met wanted e f g = ap Err (sym f ∙ same (sym e 
     same : ◌≡◌ {A = Result T E} (Err x) (Err wanted) → x ≡ wanted
     same h = cc
 
-pub instead-kept : {T : Type 0} (a b : Option (List ℕ)) (n : ℕ) (buf kept : List ℕ) (e : LinkError) → n ≤ 256 → AppendedReply a b (take n buf) → kept ≡ take n buf → ◌≡◌ {A = Result T LinkError} (Err (error.BadReply kept)) (Err e) → HeardInstead e a b
-instead-kept {T = T} a b n buf kept e h f k s =
+pub instead-kept : {T : Type 0} (a b : Option (List ℕ)) (n : ℕ) (buf kept : List ℕ) (e : LinkError) → 4 ≤ n → n ≤ 256 → n ≤ length buf → AppendedReply a b (take n buf) → kept ≡ take n buf → ◌≡◌ {A = Result T LinkError} (Err (error.BadReply kept)) (Err e) → HeardInstead e a b
+instead-kept {T = T} a b n buf kept e l h m f k s =
+    let long : 4 ≤ length kept = omega (arith, ap length k, l, m, length-take n buf) in
     let short : length kept ≤ 256 = omega (arith, ap length k, h, length-take n buf) in
-    subst (λ x. HeardInstead x a b) same (instead-reply a b kept short (subst (AppendedReply a b) (sym k) f))
+    subst (λ x. HeardInstead x a b) same (instead-reply a b kept long short (subst (AppendedReply a b) (sym k) f))
   where
     same : error.BadReply kept ≡ e
     same = cc
@@ -88,7 +97,7 @@ stands-behind error.Link n rest h s = (h, s.1)
 stands-behind error.Ended n rest h s = (h, s.1)
 stands-behind (error.BadHandshake four) n rest h s = s
 stands-behind (error.BadLength m) n rest h s = (h, s.1)
-stands-behind (error.BadReply p) n rest h s = (h, s.1, s.2)
+stands-behind (error.BadReply p) n rest h s = (h, s.1, s.2, s.3)
 stands-behind error.TooManyInfos n rest h s = absurd (omega (arith, s.0))
 
 pub broke-behind : (n k : ℕ) (a b : Option Peer) (h i j t u v : Option (List ℕ)) (e : LinkError) → HeardLines n a b h i t u k → k < 10000 → HeardInstead e i j → v ≡ u → BrokeOff n h j t v e
@@ -120,7 +129,7 @@ broke-at-once h i t e = record {
   lines = refl;
   fits = refl;
   rest = [];
-  stands = (omega arith, omega arith);
+  stands = (omega arith, inl (omega arith));
   bytes = subst (λ x. Appended h x []) (sym e) (Appended-nothing h);
   shown = Grew-nothing t;
 }
@@ -131,6 +140,13 @@ front-of q (y ∷ xs) x e =
     let a = both (q y) (list_all q (xs ++ x ∷ [])) e in
     let f = front-of q xs x a.1 in
     (and-true (q y) (list_all q xs) a.0 f.0, f.1)
+
+reply-long : (r : Reply) → 4 ≤ length (reply_bytes r)
+reply-long (Okay line) = omega (arith, length-append (codes "OKAY") line)
+reply-long (Fail line) = omega (arith, length-append (codes "FAIL") line)
+reply-long (Info line) = omega (arith, length-append (codes "INFO") line)
+reply-long (Text line) = omega (arith, length-append (codes "TEXT") line)
+reply-long (Load count) = omega (arith, length-append (codes "DATA") (hex8 count))
 
 reply-short : (r : Reply) → reply_fits r ≡ true → length (reply_bytes r) ≤ 256
 reply-short (Okay line) f = (let g : length line ≤ 252 = grind (arith, f, nat_tests) in omega (arith, g, length-append (codes "OKAY") line))
@@ -148,6 +164,7 @@ broke-end n k a b h i t u end bytes l few e = record {
   rest = frame bytes;
   stands = (
     omega (arith, few, l.counted),
+    subst (λ x. 4 ≤ length x) (sym e) (reply-long end),
     subst (λ x. length x ≤ 256) (sym e) (reply-short end (front-of reply_fits l.infos end l.fits).1),
     refl,
   );
@@ -170,12 +187,16 @@ part-shown n k a b h i j t u v l few p = record {
 }
 
 -- How much was heard at most.
+cut-short : (rest : List ℕ) → IsCut rest → length rest ≤ 264
+cut-short rest (inl s) = omega (arith, s)
+cut-short rest (inr t) = omega (arith, ap length t.2, length-append (head t.0) t.1, t.4, t.5)
+
 stands-short : (e : LinkError) (n : ℕ) (rest : List ℕ) → StandsFor e n rest → (n ≤ 10000) × (length rest ≤ 264)
-stands-short error.Link n rest s = (omega (arith, s.0), omega (arith, s.1))
-stands-short error.Ended n rest s = (omega (arith, s.0), omega (arith, s.1))
+stands-short error.Link n rest s = (omega (arith, s.0), cut-short rest s.1)
+stands-short error.Ended n rest s = (omega (arith, s.0), cut-short rest s.1)
 stands-short (error.BadHandshake four) n rest s = absurd s
 stands-short (error.BadLength m) n rest s = (omega (arith, s.0), omega (arith, ap length s.1))
-stands-short (error.BadReply p) n rest s = (omega (arith, s.0), omega (arith, ap length s.2, s.1, length-frame p))
+stands-short (error.BadReply p) n rest s = (omega (arith, s.0), omega (arith, ap length s.3, s.2, length-frame p))
 stands-short error.TooManyInfos n rest s = (omega (arith, s.0), omega (arith, ap length s.1))
 
 pub most-broke : (n : ℕ) (h i t u : Option (List ℕ)) (e : LinkError) → BrokeOff n h i t u e → HeardAtMost n h i
@@ -246,7 +267,7 @@ pub ruleset opened = (alone-emptied, never-barred)
 
 pub ruleset parts = (part-of, part-still, part-end)
 
-pub ruleset broken_parts = (part-wider, part-behind, instead-link, instead-end, instead-length)
+pub ruleset broken_parts = (instead-link, instead-end, instead-link-text, instead-end-text, instead-length)
 
 pub ruleset broken_reply = (instead-reply)
 

@@ -1,5 +1,5 @@
 -- What was heard and shown of a command's replies before their end.
-use Rattle.std.specs.Prelude.{◌≡◌, ℕ, ◌+◌, ◌<◌, ◌≤◌, true, List, [], ◌∷◌, ◌++◌, length, Option, Some, None}
+use Rattle.std.specs.Prelude.{◌≡◌, ◌⊎◌, ℕ, ◌+◌, ◌<◌, ◌≤◌, true, List, [], ◌∷◌, ◌++◌, length, Option, Some, None}
 use Rattle.std.specs.List.{list_all}
 use Rattle.fb_frame.specs.Framing.{head, frame}
 use Rattle.fb_frame.specs.Sinks.{Grew, GrewPart}
@@ -11,14 +11,17 @@ use Rattle.fb_link.specs.Lines.{shown_line, shown_lines}
 use Rattle.fb_link.specs.declared.replies.LinkError.{LinkError}
 use Rattle.fb_link.specs.declared.replies.LinkError.TheVariants as error
 
--- The longest reply has 256 bytes, and its frame 264. How many lines came, and which bytes behind them, where
--- the replies of a command broke off with this error.
+-- A reply has 4 to 256 bytes. These bytes are the front of a reply's frame, and not all of it.
+abbrev pub IsCut : List ℕ → Type 0
+IsCut rest = (length rest < 8) ⊎ ((n : ℕ) × (text : List ℕ) × (rest ≡ head n ++ text) × (4 ≤ n) × (n ≤ 256) × (length text < n))
+
+-- How many lines came, and which bytes behind them, where the replies of a command broke off with this error.
 abbrev pub StandsFor : LinkError → ℕ → List ℕ → Type 0
-StandsFor error.Link lines rest = (lines < 10000) × (length rest < 264)
-StandsFor error.Ended lines rest = (lines < 10000) × (length rest < 264)
+StandsFor error.Link lines rest = (lines < 10000) × IsCut rest
+StandsFor error.Ended lines rest = (lines < 10000) × IsCut rest
 StandsFor (error.BadHandshake four) lines rest = ⊥
 StandsFor (error.BadLength n) lines rest = (lines < 10000) × (rest ≡ head n)
-StandsFor (error.BadReply reply) lines rest = (lines < 10000) × (length reply ≤ 256) × (rest ≡ frame reply)
+StandsFor (error.BadReply reply) lines rest = (lines < 10000) × (4 ≤ length reply) × (length reply ≤ 256) × (rest ≡ frame reply)
 StandsFor error.TooManyInfos lines rest = (lines ≡ 10000) × (rest ≡ [])
 
 -- this was heard in place of a reply

@@ -65,6 +65,7 @@ fn hear_text<P: Port>(port: &mut P, buf: &mut [u8; 256]) -> Result<usize, LinkEr
     requires up { IsTrue (P.up port.old) }
     requires next { Next (P.peer port.old) }
     ensures within { IfOk result (λ n. n ≤ 256) }
+    ensures long_enough { IfOk result (λ n. 4 ≤ n) }
     ensures up { OnOk result (IsTrue (P.up port.new)) }
     ensures got { IfOk result (λ n. HeardReply (P.peer port.old) (P.peer port.new) (take n buf.new)) }
     ensures stays { OnErr result (Stays (P.peer port.old) (P.peer port.new)) }
