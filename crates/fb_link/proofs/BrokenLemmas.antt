@@ -1,6 +1,6 @@
 -- What was heard and shown before a command's end.
 use Rattle.std.proofs.Common.{◌≡◌, inl, inr, ℕ, ◌+◌, ◌<◌, ◌≤◌, Bool, true, false, List, [], ◌∷◌, ◌++◌, length, take, Option, Some, None, refl, sym, ap, ◌∙◌, subst, arith, append-nil, length-append, length-take}
-use Rattle.std.specs.Prelude.{Result, Err, IsErrOf, codes, nat_le, nat_lt}
+use Rattle.std.specs.Prelude.{Result, Err, IsTrue, IsFalse, codes, nat_le, nat_lt}
 use Rattle.std.specs.List.{list_all}
 use Rattle.std.proofs.lemmas.Bool.Decides.{nat_tests}
 use Rattle.fb_frame.specs.Framing.{head, frame}
@@ -14,7 +14,7 @@ use Rattle.fb_message.specs.ReplyText.{reply_bytes, reply_fits}
 use Rattle.dev_model.proofs.Valid.{both, and-true}
 use Rattle.fb_frame.specs.Greeting.{handshake}
 use Rattle.wire_model.specs.Peers.{Peer, Apart, Joined}
-use Rattle.wire_model.specs.Told.{Connected, IsBarred}
+use Rattle.wire_model.specs.Told.{Connected, IsBarred, IsOkay}
 use Rattle.wire_model.specs.Places.{Appended, AppendedHead, AppendedReply, Emptied}
 use Rattle.wire_model.specs.Answered.{is_line, reply_frames}
 use Rattle.wire_model.proofs.KeptLemmas.{Appended-nothing, Appended-append}
@@ -22,7 +22,7 @@ use Rattle.wire_model.proofs.OneFrames.{length-frame}
 use Rattle.fb_link.specs.Lines.{shown_line, shown_lines}
 use Rattle.fb_link.specs.Heard.{HeardLines, HeardEnd}
 use Rattle.fb_link.specs.Concluded.{Concluded, Finished}
-use Rattle.fb_link.specs.Broken.{IsCut, StandsFor, HeardInstead, BrokeOff, LineInPart, ShownInPart, HeardAtMost, AppendedPart, HeardAlone}
+use Rattle.fb_link.specs.Broken.{IsCut, StandsFor, HeardInstead, BrokeOff, LineInPart, ShownInPart, HeardAtMost, AppendedPart, HeardAlone, IsAnswered}
 use Rattle.fb_link.specs.declared.replies.LinkError.{LinkError}
 use Rattle.fb_link.specs.declared.replies.LinkError.TheVariants as error
 use Rattle.fb_link.proofs.EndLemmas.{all-snoc, frames-snoc, lines-snoc, appended-reply}
@@ -260,6 +260,11 @@ heard-greeting a b four f e = subst (Appended a b) e f
 
 pub appended-same : (a b c : Option (List ℕ)) (bytes : List ℕ) → b ≡ a → Appended b c bytes → Appended a c bytes
 appended-same a b c bytes e f = subst (λ x. Appended x c bytes) e f
+
+pub answered-by : (okay : Bool) (a b : Option (List ℕ)) (reply : List ℕ) → AppendedReply a b reply → (IsTrue okay → IsOkay reply) → (IsFalse okay → IsOkay reply → ⊥) → IsAnswered okay a b
+answered-by okay a b reply f when unless = record { reply = reply; bytes = f; yes = when; no = unless }
+
+pub ruleset orders = (answered-by)
 
 pub ruleset handshakes = (heard-greeting, appended-same)
 

@@ -1,11 +1,12 @@
 -- What was heard and shown of a command's replies before their end.
-use Rattle.std.specs.Prelude.{◌≡◌, ◌⊎◌, ℕ, ◌+◌, ◌<◌, ◌≤◌, true, List, [], ◌∷◌, ◌++◌, length, Option, Some, None}
+use Rattle.std.specs.Prelude.{◌≡◌, ◌⊎◌, Bool, IsTrue, IsFalse, ℕ, ◌+◌, ◌<◌, ◌≤◌, true, List, [], ◌∷◌, ◌++◌, length, Option, Some, None}
 use Rattle.std.specs.List.{list_all}
 use Rattle.fb_frame.specs.Framing.{head, frame}
 use Rattle.fb_frame.specs.Sinks.{Grew, GrewPart}
 use Rattle.fb_message.specs.declared.reply.Reply.{Reply}
 use Rattle.fb_message.specs.ReplyText.{reply_bytes, reply_fits}
 use Rattle.wire_model.specs.Places.{Appended, AppendedReply}
+use Rattle.wire_model.specs.Told.{IsOkay}
 use Rattle.wire_model.specs.Answered.{is_line, reply_frames}
 use Rattle.fb_link.specs.Lines.{shown_line, shown_lines}
 use Rattle.fb_link.specs.declared.replies.LinkError.{LinkError}
@@ -73,6 +74,13 @@ pub record AppendedPart (most : ℕ) (heard now : Option (List ℕ)) : Type 0 wh
   pub part : List ℕ
   pub short : length part < most
   pub bytes : Appended heard now part
+
+-- A reply was heard, and it begins with OKAY or doesn't.
+pub record IsAnswered (okay : Bool) (heard now : Option (List ℕ)) : Type 0 where
+  pub reply : List ℕ
+  pub bytes : AppendedReply heard now reply
+  pub yes : IsTrue okay → IsOkay reply
+  pub no : IsFalse okay → IsOkay reply → ⊥
 
 -- the told bytes are these alone
 abbrev pub HeardAlone : Option (List ℕ) → Option (List ℕ) → List ℕ → Type 0

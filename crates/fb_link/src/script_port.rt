@@ -1,4 +1,4 @@
-ghost use Rattle.std.specs.Prelude.{◌≡◌, ◌≤◌, ◌<◌, true, None, Some, All, ◌+◌, length, take, drop, IfOk, refl, IsTrue, IsFalse};
+ghost use Rattle.std.specs.Prelude.{◌≡◌, [], ◌≤◌, ◌<◌, true, None, Some, All, ◌+◌, length, take, drop, IfOk, refl, IsFalse};
 ghost use Rattle.fb_frame.specs.Causes.{Rose};
 
 use crate::port::{AimError, LinkFault, Port, Target};
@@ -37,6 +37,11 @@ impl ScriptPort {
         room: usize,
     ) -> Result<ScriptPort, Memory>
         requires sizes { All (λ s. 1 ≤ s) sizes.items }
+        ensures astray { IfOk result (λ p. IsFalse (⟦<ScriptPort as Port>⟧.aimed p)) }
+        ensures down { IfOk result (λ p. IsFalse (⟦<ScriptPort as Port>⟧.up p)) }
+        ensures unheard { IfOk result (λ p. ⟦<ScriptPort as Port>⟧.heard p ≡ Some []) }
+        ensures faults { IfOk result (λ p. ⟦<ScriptPort as Port>⟧.faults p ≡ 0) }
+        ensures ends { IfOk result (λ p. ⟦<ScriptPort as Port>⟧.ends p ≡ 0) }
     {
         let sent = Vec::with_capacity(alloc, room).map_err(|_| Memory)?;
         let starts = Vec::with_capacity(alloc, connections.len()).map_err(|_| Memory)?;

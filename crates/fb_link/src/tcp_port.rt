@@ -1,4 +1,4 @@
-ghost use Rattle.std.specs.Prelude.{◌≡◌, ◌≤◌, true, None, is_some, refl, OnErr};
+ghost use Rattle.std.specs.Prelude.{◌≡◌, ◌≤◌, true, None, is_some, refl, IsFalse, OnErr};
 ghost use Rattle.fb_frame.specs.Causes.{HasCause};
 
 use crate::port::{AimError, LinkFault, Port, Target};
@@ -19,7 +19,12 @@ pub struct TcpPort<R: Net + Drop> {
 
 impl<R: Net + Drop> TcpPort<R> {
     /// A port that is aimed at nothing.
-    pub fn new(net: R) -> TcpPort<R> {
+    pub fn new(net: R) -> TcpPort<R>
+        ensures astray { IsFalse (⟦<TcpPort<R> as Port>⟧.aimed result) }
+        ensures down { IsFalse (⟦<TcpPort<R> as Port>⟧.up result) }
+        ensures faults { ⟦<TcpPort<R> as Port>⟧.faults result ≡ 0 }
+        ensures ends { ⟦<TcpPort<R> as Port>⟧.ends result ≡ 0 }
+    {
         TcpPort {
             net,
             address: None,
