@@ -22,17 +22,17 @@ use Rattle.wire_model.specs.Answered.{IsListening}
 use Rattle.fb_link.specs.Lines.{shown_line, shown_lines}
 use Rattle.fb_link.specs.Heard.{HeardLines, HeardEnd}
 
-all-snoc : {X : Type 0} (q : X → Bool) (xs : List X) (x : X) → list_all q xs ≡ true → q x ≡ true → list_all q (xs ++ x ∷ []) ≡ true
+pub all-snoc : {X : Type 0} (q : X → Bool) (xs : List X) (x : X) → list_all q xs ≡ true → q x ≡ true → list_all q (xs ++ x ∷ []) ≡ true
 all-snoc q [] x e f = and-true (q x) true f refl
 all-snoc q (y ∷ xs) x e f =
     let a = both (q y) (list_all q xs) e in
     and-true (q y) (list_all q (xs ++ x ∷ [])) a.0 (all-snoc q xs x a.1 f)
 
-frames-snoc : (rs : List Reply) (r : Reply) → reply_frames rs ++ frame (reply_bytes r) ≡ reply_frames (rs ++ r ∷ [])
+pub frames-snoc : (rs : List Reply) (r : Reply) → reply_frames rs ++ frame (reply_bytes r) ≡ reply_frames (rs ++ r ∷ [])
 frames-snoc [] r = sym (append-nil (frame (reply_bytes r)))
 frames-snoc (s ∷ rs) r = append_assoc (frame (reply_bytes s)) (reply_frames rs) (frame (reply_bytes r)) ∙ ap (λ t. frame (reply_bytes s) ++ t) (frames-snoc rs r)
 
-lines-snoc : (rs : List Reply) (r : Reply) → shown_lines rs ++ shown_line r ≡ shown_lines (rs ++ r ∷ [])
+pub lines-snoc : (rs : List Reply) (r : Reply) → shown_lines rs ++ shown_line r ≡ shown_lines (rs ++ r ∷ [])
 lines-snoc [] r = sym (append-nil (shown_line r))
 lines-snoc (s ∷ rs) r = append_assoc (shown_line s) (shown_lines rs) (shown_line r) ∙ ap (λ t. shown_line s ++ t) (lines-snoc rs r)
 
@@ -59,7 +59,7 @@ heard-reply : (a b : Option Peer) (r : Reply) → HeardReply a b (reply_bytes r)
 unfolding HeardReply
 heard-reply a b r h = h
 
-appended-reply : (a b : Option (List ℕ)) (r : Reply) → AppendedReply a b (reply_bytes r) → Appended a b (frame (reply_bytes r))
+pub appended-reply : (a b : Option (List ℕ)) (r : Reply) → AppendedReply a b (reply_bytes r) → Appended a b (frame (reply_bytes r))
 unfolding AppendedReply
 appended-reply a b r h = h
 

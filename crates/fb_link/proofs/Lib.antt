@@ -1,3 +1,4 @@
 pub mod EndLemmas
 pub mod TypedLemmas
 pub mod ScriptLemmas
+pub mod BrokenLemmas

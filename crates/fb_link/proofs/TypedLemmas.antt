@@ -38,7 +38,7 @@ use Rattle.wire_model.proofs.AnsweredLemmas.{sent-listening, answered-from}
 use Rattle.wire_model.proofs.StateLemmas.{finished, between-again, sending-load, answered-suits, suits-load, announces-download}
 use Rattle.fb_link.specs.Lines.{shown_lines}
 use Rattle.fb_link.specs.Heard.{HeardEnd}
-use Rattle.fb_link.specs.Concluded.{Concluded, LeftIn, CommandPasses, IsNoVerdict, Finished}
+use Rattle.fb_link.specs.Concluded.{Concluded, ConcludedBehind, LeftIn, CommandPasses, IsNoVerdict, Finished}
 
 some-same : (x y : List ℕ) → Some x ≡ Some y → x ≡ y
 some-same x y e = cc
@@ -158,19 +158,23 @@ answered-told k l m j a d p infos end t f some h lines ends fits b =
     with-on IsOpenFor (IsBehind (Rose k l) p (infos ++ end ∷ [])) (IsAnswered (Rose k m) p (infos ++ end ∷ [])) (answered-now k l m j p infos end some h lines ends fits) a d (open-for a t f) b
 
 -- a command was sent and all of its replies heard
-pub concluded-from : (c : CommandValue) (k l m : ℕ) → l ≤ m → (a b d : Option Peer) (h i t u : Option (List ℕ)) (p : List ℕ) (end : Reply) (n : ℕ) → Between a → Free a → 0 < length p → length p ≤ 4096 → spelling c ≡ Some p → Sent k l a b (frame p) → HeardEnd 0 b d h i t u end n → n < 10000 → suits c end ≡ true → Concluded c k m a d h i t u end
-concluded-from c k l m j a b d h i t u p end n between free some short spelled g e few suit = record {
-  payload = p;
-  spelled = spelled;
-  infos = e.infos;
-  lines = e.lines;
-  few = omega (arith, few, e.counted);
-  ends = e.ends;
-  suitable = suit;
-  told = answered-told k l m j a d p e.infos end between free some short e.lines e.ends e.fits (behind k l a b d p (e.infos ++ end ∷ []) g e.told);
-  bytes = e.bytes;
-  shown = e.shown;
-}
+pub concluded-behind : (c : CommandValue) (k l m : ℕ) → l ≤ m → (a b d : Option Peer) (h i t u : Option (List ℕ)) (p : List ℕ) (end : Reply) (n : ℕ) → Between a → Free a → 0 < length p → length p ≤ 4096 → spelling c ≡ Some p → Sent k l a b (frame p) → HeardEnd 0 b d h i t u end n → n < 10000 → suits c end ≡ true → ConcludedBehind c k m a d h i t u end n
+concluded-behind c k l m j a b d h i t u p end n between free some short spelled g e few suit = (
+  record {
+    payload = p;
+    spelled = spelled;
+    infos = e.infos;
+    lines = e.lines;
+    few = omega (arith, few, e.counted);
+    ends = e.ends;
+    fits = e.fits;
+    suitable = suit;
+    told = answered-told k l m j a d p e.infos end between free some short e.lines e.ends e.fits (behind k l a b d p (e.infos ++ end ∷ []) g e.told);
+    bytes = e.bytes;
+    shown = e.shown;
+  },
+  omega (arith, e.counted),
+)
 
 none-by : (R : Wire → Wire → Type 0) → ((w u : Wire) → R w u → ⊥) → (a d : Option Peer) → OnLink R a d → a ≡ None
 none-by R f None d r = refl
@@ -249,7 +253,7 @@ pub ruleset command_sent = (Idle-free, Passes-spelled, spelled-some, Listening-s
 
 pub ruleset command_ended = (LeftIn-from, LeftIn-heard, untold-before)
 
-pub ruleset command_concluded = (concluded-from, untold-unsuited, Between-again, Downloading-now, suits-load, announces-download)
+pub ruleset command_concluded = (untold-unsuited, Between-again, Downloading-now, suits-load, announces-download)
 
 pub ruleset reply_kept = (spelled-read)
 
@@ -269,6 +273,8 @@ Free-opened None (Some q) o = absurd o
 Free-opened (Some p) None o = absurd o
 Free-opened (Some p) (Some (Apart dev)) o = absurd o
 Free-opened (Some p) (Some (Joined w)) o = record { running = o.1.running; bounded = omega (arith, o.1.bounded) }
+
+pub ruleset sound_states = (Sound-between, Sound-sending, Sound-hung)
 
 pub ruleset begins = (Between-opened, Free-opened, Sound-hung)
 
@@ -319,6 +325,7 @@ Finished-from n a b h i t u end k e few = record {
   infos = e.infos;
   lines = e.lines;
   few = omega (arith, few, e.counted);
+  fits = e.fits;
   told = e.told;
   bytes = e.bytes;
   shown = e.shown;

@@ -6,7 +6,7 @@ use Rattle.fb_frame.specs.Sinks.{Grew}
 use Rattle.fb_message.specs.CommandText.{CommandValue, spelling}
 use Rattle.fb_message.specs.declared.reply.Reply.{Reply}
 use Rattle.fb_message.specs.declared.reply.Reply.TheVariants.{Load}
-use Rattle.fb_message.specs.ReplyText.{reply_of}
+use Rattle.fb_message.specs.ReplyText.{reply_of, reply_fits}
 use Rattle.wire_model.specs.Peers.{Peer}
 use Rattle.wire_model.specs.Places.{Appended}
 use Rattle.wire_model.specs.Told.{LeftBy, Heard, Passes}
@@ -23,10 +23,16 @@ pub record Concluded (command : CommandValue) (before now : ℕ) (a b : Option P
   pub lines : list_all is_line infos ≡ true
   pub few : length infos < 10000
   pub ends : is_line end ≡ false
+  pub fits : list_all reply_fits (infos ++ end ∷ []) ≡ true
   pub suitable : suits command end ≡ true
   pub told : Answered before now a b payload (infos ++ end ∷ [])
   pub bytes : Appended heard hears (reply_frames (infos ++ end ∷ []))
   pub shown : Grew text grown (shown_lines infos)
+
+-- the same, and so many lines came before the reply
+abbrev pub ConcludedBehind : CommandValue → ℕ → ℕ → Option Peer → Option Peer → Option (List ℕ) → Option (List ℕ) → Option (List ℕ) → Option (List ℕ) → Reply → ℕ → Type 0
+ConcludedBehind command before now a b heard hears text grown end lines =
+    (concluded : Concluded command before now a b heard hears text grown end) × (lines ≡ length concluded.infos)
 
 -- the connection ended while the command was sent or answered: at most its change is done
 unfoldable pub LeftIn : CommandValue → ℕ → ℕ → Option Peer → Option Peer → Type 0
@@ -50,6 +56,7 @@ pub record Finished (before : ℕ) (a b : Option Peer) (heard hears : Option (Li
   pub infos : List Reply
   pub lines : list_all is_line infos ≡ true
   pub few : before + length infos < 10000
+  pub fits : list_all reply_fits (infos ++ end ∷ []) ≡ true
   pub told : Heard a b (reply_frames (infos ++ end ∷ []))
   pub bytes : Appended heard hears (reply_frames (infos ++ end ∷ []))
   pub shown : Grew text grown (shown_lines infos)

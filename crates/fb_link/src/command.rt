@@ -2,10 +2,11 @@ ghost use Rattle.std.specs.Prelude.{◌≡◌, ℕ, ◌<◌, ◌≤◌, false, O
 ghost use Rattle.std.specs.Result.{IsErrOf};
 ghost use Rattle.fb_frame.specs.Causes.{Rose};
 ghost use Rattle.fb_message.specs.CommandText.{command_value, is_written};
-ghost use Rattle.fb_message.specs.ReplyText.{reply_fits, reply_of, reply_spelling};
+ghost use Rattle.fb_message.specs.ReplyText.{reply_bytes, reply_fits, reply_of, reply_spelling};
 ghost use Rattle.wire_model.specs.Answered.{announces, is_announced, suits, is_line, Between, Free, IsVerdict, Downloading, Sound};
 ghost use Rattle.wire_model.specs.Places.{IsKept};
-ghost use Rattle.fb_link.specs.Concluded.{Concluded, LeftIn, CommandPasses, IsUndue, IsNoVerdict, Finished};
+ghost use Rattle.fb_link.specs.Broken.{BrokeOff, ShownInPart};
+ghost use Rattle.fb_link.specs.Concluded.{Concluded, ConcludedBehind, LeftIn, CommandPasses, IsUndue, IsNoVerdict, Finished};
 ghost use Rattle.fb_link.specs.Heard.{HeardEnd, IsWrongLength};
 ghost use Rattle.wire_model.specs.Peers.{OfLink};
 ghost use Rattle.wire_model.specs.Told.{HungUp};
@@ -46,7 +47,8 @@ fn suits(command: &Command<'_>, reply: &Reply) -> bool
 
 /// The bytes of a reply, to be kept.
 fn keep(reply: &Reply) -> Packet
-    ensures { reply_of result ≡ Some reply.now }
+    ensures read { reply_of result ≡ Some reply.now }
+    ensures bytes { result ≡ reply_bytes reply.now }
 {
     let mut packet = Packet::new();
     write_reply(reply, &mut packet);
@@ -54,7 +56,7 @@ fn keep(reply: &Reply) -> Packet
 }
 
 /// Sends a command and hears its replies; the connection ends where something was wrong.
-#[tactic(auto, using(crate::proofs::TypedLemmas::command_sent, crate::proofs::TypedLemmas::command_ended, wire_model::proofs::KeptLemmas::kept))]
+#[tactic(auto, using(crate::proofs::TypedLemmas::command_sent, crate::proofs::TypedLemmas::command_ended, crate::proofs::BrokenLemmas::broken_ends, wire_model::proofs::KeptLemmas::kept))]
 pub(crate) fn run<P: Port, S: Sink>(
     port: &mut P,
     command: &Command<'_>,
@@ -68,6 +70,9 @@ pub(crate) fn run<P: Port, S: Sink>(
     ensures up { OnOk result (IsTrue (P.up port.new)) }
     ensures down { OnErr result (IsFalse (P.up port.new)) }
     ensures concluded { IfOk result (λ e. Concluded (command_value command.now) (P.faults port.old) (P.faults port.new) (P.peer port.old) (P.peer port.new) (P.heard port.old) (P.heard port.new) (S.text shown.old) (S.text shown.new) e.reply) }
+    ensures behind { IfOk result (λ e. ConcludedBehind (command_value command.now) (P.faults port.old) (P.faults port.new) (P.peer port.old) (P.peer port.new) (P.heard port.old) (P.heard port.new) (S.text shown.old) (S.text shown.new) e.reply e.lines) }
+    ensures broke { (e : _) → IsErrOf result (Unheard.Broken e) → BrokeOff 0 (P.heard port.old) (P.heard port.new) (S.text shown.old) (S.text shown.new) e }
+    ensures part { IsErrOf result Unheard.Unshown → ShownInPart 0 (P.heard port.old) (P.heard port.new) (S.text shown.old) (S.text shown.new) }
     ensures below { IfOk result (λ e. e.lines < 10000) }
     ensures again { IfOk result (λ e. IsVerdict e.reply → Between (P.peer port.new)) }
     ensures sending { IfOk result (λ e. (n : _) → e.reply ≡ Reply.Load n → Downloading n (P.peer port.new)) }
@@ -102,7 +107,7 @@ pub(crate) fn run<P: Port, S: Sink>(
 }
 
 /// Hears the end of a download; the connection ends where something was wrong. DATA doesn't end one.
-#[tactic(auto, using(crate::proofs::TypedLemmas::download_ended, wire_model::proofs::NextLemmas::next_hung, wire_model::proofs::KeptLemmas::kept))]
+#[tactic(auto, using(crate::proofs::TypedLemmas::download_ended, crate::proofs::BrokenLemmas::broken_ends, wire_model::proofs::NextLemmas::next_hung, wire_model::proofs::KeptLemmas::kept))]
 pub(crate) fn end_download<P: Port, S: Sink>(
     port: &mut P,
     lines: u32,
@@ -120,6 +125,8 @@ pub(crate) fn end_download<P: Port, S: Sink>(
     ensures verdict { IfOk result (λ e. IsVerdict e.reply) }
     ensures between { OnOk result (Between (P.peer port.new)) }
     ensures below { IfOk result (λ e. e.lines < 10000) }
+    ensures broke { (e : _) → IsErrOf result (Unheard.Broken e) → BrokeOff lines (P.heard port.old) (P.heard port.new) (S.text shown.old) (S.text shown.new) e }
+    ensures part { IsErrOf result Unheard.Unshown → ShownInPart lines (P.heard port.old) (P.heard port.new) (S.text shown.old) (S.text shown.new) }
     ensures left { OnErr result (HungUp (P.peer port.old) (P.peer port.new)) }
     ensures kept { IsKept (P.aimed port.old) (P.aimed port.new) (P.last port.old) (P.last port.new) (P.stands port.old) (P.stands port.new) }
     ensures later { P.faults port.old ≤ P.faults port.new }

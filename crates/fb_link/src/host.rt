@@ -4,6 +4,7 @@ ghost use Rattle.fb_frame.specs.Framing.{frame};
 ghost use Rattle.fb_frame.specs.Causes.{HasCause, Rose};
 ghost use Rattle.wire_model.specs.Places.{IsKept, Appended, AppendedHead, AppendedReply};
 ghost use Rattle.wire_model.specs.Replied.{Replied};
+ghost use Rattle.fb_link.specs.Broken.{AppendedPart, IsAnswered};
 ghost use Rattle.wire_model.specs.Told.{Sent, LeftBy, Heard, IsHead, HeardHead, HeardReply, HungUp, MaySend, Passes, Gives, Owes, Idle, Answers, AreShort, Asked, IsOkay, Did, DidSo};
 
 use crate::port::{LinkFault, Port};
@@ -41,7 +42,7 @@ pub enum HearError {
 }
 
 /// Receives as many bytes as the buffer holds, in as many calls as the port wants.
-#[tactic(auto, using(wire_model::proofs::ToldLemmas::hear_loop, wire_model::proofs::KeptLemmas::kept, wire_model::proofs::KeptLemmas::grown))]
+#[tactic(auto, using(wire_model::proofs::ToldLemmas::hear_loop, wire_model::proofs::KeptLemmas::kept, wire_model::proofs::KeptLemmas::grown, crate::proofs::BrokenLemmas::parts))]
 pub fn recv_all<P: Port>(port: &mut P, buf: &mut [u8]) -> Result<(), HearError>
     requires up { IsTrue (P.up port.old) }
     requires gives { Gives (P.peer port.old) (length buf.old) }
@@ -52,6 +53,7 @@ pub fn recv_all<P: Port>(port: &mut P, buf: &mut [u8]) -> Result<(), HearError>
     ensures gone { IsErrOf result HearError.Ended → P.peer port.new ≡ None }
     ensures kept { IsKept (P.aimed port.old) (P.aimed port.new) (P.last port.old) (P.last port.new) (P.stands port.old) (P.stands port.new) }
     ensures heard { OnOk result (Appended (P.heard port.old) (P.heard port.new) buf.new) }
+    ensures part { OnErr result (AppendedPart (length buf.old) (P.heard port.old) (P.heard port.new)) }
     ensures later { P.faults port.old ≤ P.faults port.new }
     ensures ends { P.ends port.old ≤ P.ends port.new }
     ensures cause { IsErrOf result HearError.Link → Rose (P.faults port.old) (P.faults port.new) }
@@ -200,13 +202,14 @@ pub fn ask<P: Port>(port: &mut P, payload: &[u8], buf: &mut [u8; 256]) -> Result
 }
 
 fn is_okay(answer: &[u8]) -> bool
-    ensures { IsTrue result → IsOkay answer.now }
+    ensures yes { IsTrue result → IsOkay answer.now }
+    ensures no { IsFalse result → IsOkay answer.now → ⊥ }
 {
     answer.len() >= 4 && &answer[..4] == b"OKAY".as_slice()
 }
 
 /// Sends one command, and says whether the first reply is `OKAY`.
-#[tactic(auto, using(wire_model::proofs::KeptLemmas::kept))]
+#[tactic(auto, using(wire_model::proofs::KeptLemmas::kept, crate::proofs::BrokenLemmas::orders))]
 pub fn order<P: Port>(port: &mut P, payload: &[u8]) -> Result<bool, AskError>
     requires up { IsTrue (P.up port.old) }
     requires idle { Idle (8 + length payload.now) (P.peer port.old) }
@@ -216,6 +219,7 @@ pub fn order<P: Port>(port: &mut P, payload: &[u8]) -> Result<bool, AskError>
     requires short { length payload.now ≤ 4096 }
     ensures up { OnOk result (IsTrue (P.up port.new)) }
     ensures did { IfOk result (λ ok. IsTrue ok → DidSo (P.peer port.old) (P.peer port.new) payload.now) }
+    ensures answered { IfOk result (λ ok. IsAnswered ok (P.heard port.old) (P.heard port.new)) }
     ensures left { IsErrOf result AskError.Link → LeftBy (P.faults port.old) (P.faults port.new) (P.peer port.old) (P.peer port.new) (frame payload.now) }
     ensures untold { IsErrOf result AskError.Ended → P.peer port.old ≡ None }
     ensures bad { IsErrOf result AskError.BadReply → P.peer port.old ≡ None }

@@ -12,3 +12,5 @@ pub mod replies;
 pub mod script_port;
 pub mod states;
 pub mod tcp_port;
+#[cfg(test)]
+mod tests;

@@ -4,6 +4,7 @@ ghost use Rattle.fb_frame.specs.Greeting.{handshake};
 ghost use Rattle.fb_frame.specs.Causes.{Rose};
 ghost use Rattle.wire_model.specs.Answered.{Between, Free, Sound};
 ghost use Rattle.wire_model.specs.Places.{IsKept, Appended};
+ghost use Rattle.fb_link.specs.Broken.{HeardAlone};
 ghost use Rattle.wire_model.specs.Told.{HungUp, Lost, IsBarred, Begun, Greeted, Opened};
 
 use crate::host::{HearError, recv_all, send_all};
@@ -30,7 +31,7 @@ fn is_greeting(four: &[u8; 4]) -> bool
 }
 
 /// Exchanges the handshakes on a connection that has just begun.
-#[tactic(auto, using(wire_model::proofs::GreetLemmas::greets, wire_model::proofs::KeptLemmas::kept))]
+#[tactic(auto, using(wire_model::proofs::GreetLemmas::greets, crate::proofs::BrokenLemmas::handshakes, wire_model::proofs::KeptLemmas::kept))]
 pub fn greet<P: Port>(port: &mut P) -> Result<(), OpenError>
     requires up { IsTrue (P.up port.old) }
     requires begun { Begun (P.peer port.old) }
@@ -42,6 +43,8 @@ pub fn greet<P: Port>(port: &mut P) -> Result<(), OpenError>
     ensures bad { (four : _) → IsErrOf result (OpenError.BadHandshake four) → four ≢ handshake 1 }
     ensures told { (four : _) → IsErrOf result (OpenError.BadHandshake four) → P.peer port.old ≡ None }
     ensures lost_told { (four : _) → IsErrOf result (OpenError.BadHandshake four) → P.peer port.new ≡ None }
+    ensures heard { OnOk result (Appended (P.heard port.old) (P.heard port.new) (handshake 1)) }
+    ensures heard_bad { (four : _) → IsErrOf result (OpenError.BadHandshake four) → Appended (P.heard port.old) (P.heard port.new) four }
     ensures kept { IsKept (P.aimed port.old) (P.aimed port.new) (P.last port.old) (P.last port.new) (P.stands port.old) (P.stands port.new) }
     ensures later { P.faults port.old ≤ P.faults port.new }
     ensures ends { P.ends port.old ≤ P.ends port.new }
@@ -64,7 +67,7 @@ pub fn greet<P: Port>(port: &mut P) -> Result<(), OpenError>
 }
 
 /// Begins a connection and exchanges the handshakes.
-#[tactic(auto, using(wire_model::proofs::GreetLemmas::opens, wire_model::proofs::KeptLemmas::kept))]
+#[tactic(auto, using(wire_model::proofs::GreetLemmas::opens, crate::proofs::BrokenLemmas::opened, wire_model::proofs::KeptLemmas::kept))]
 pub fn open<P: Port>(port: &mut P) -> Result<(), OpenError>
     requires aimed { IsTrue (P.aimed port.old) }
     ensures up { OnOk result (IsTrue (P.up port.new)) }
@@ -75,6 +78,9 @@ pub fn open<P: Port>(port: &mut P) -> Result<(), OpenError>
     ensures bad { (four : _) → IsErrOf result (OpenError.BadHandshake four) → four ≢ handshake 1 }
     ensures told { (four : _) → IsErrOf result (OpenError.BadHandshake four) → P.peer port.old ≡ None }
     ensures lost_told { (four : _) → IsErrOf result (OpenError.BadHandshake four) → P.peer port.new ≡ None }
+    ensures barred { OnOk result (IsBarred (P.peer port.old) → ⊥) }
+    ensures heard { OnOk result (HeardAlone (P.heard port.old) (P.heard port.new) (handshake 1)) }
+    ensures heard_bad { (four : _) → IsErrOf result (OpenError.BadHandshake four) → HeardAlone (P.heard port.old) (P.heard port.new) four }
     ensures kept { IsKept (P.aimed port.old) (P.aimed port.new) (P.last port.old) (P.last port.new) (P.stands port.old) (P.stands port.new) }
     ensures later { P.faults port.old ≤ P.faults port.new }
     ensures ends { P.ends port.old ≤ P.ends port.new }
@@ -99,6 +105,10 @@ pub(crate) fn begin<P: Port>(port: &mut P) -> Result<(), LinkError>
     ensures between { OnOk result (Between (P.peer port.new)) }
     ensures free { OnOk result (Free (P.peer port.new)) }
     ensures left { OnErr result (HungUp (P.peer port.old) (P.peer port.new)) }
+    ensures barred { OnOk result (IsBarred (P.peer port.old) → ⊥) }
+    ensures heard { OnOk result (HeardAlone (P.heard port.old) (P.heard port.new) (handshake 1)) }
+    ensures heard_bad { (four : _) → IsErrOf result (LinkError.BadHandshake four) → HeardAlone (P.heard port.old) (P.heard port.new) four }
+    ensures sound_lost { OnErr result (Sound (P.peer port.new)) }
     ensures kept { IsKept (P.aimed port.old) (P.aimed port.new) (P.last port.old) (P.last port.new) (P.stands port.old) (P.stands port.new) }
     ensures later { P.faults port.old ≤ P.faults port.new }
     ensures ends { P.ends port.old ≤ P.ends port.new }

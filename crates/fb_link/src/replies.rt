@@ -6,6 +6,7 @@ ghost use Rattle.fb_message.specs.ReplyText.{reply_bytes, reply_fits, reply_of};
 ghost use Rattle.wire_model.specs.Answered.{is_line, Listening, Next, Sized, Stays};
 ghost use Rattle.wire_model.specs.Places.{IsKept, AppendedHead, AppendedReply};
 ghost use Rattle.wire_model.specs.Told.{HungUp, IsHead, HeardHead, HeardReply};
+ghost use Rattle.fb_link.specs.Broken.{AppendedPart, HeardInstead, BrokeOff, LineInPart, ShownInPart};
 ghost use Rattle.fb_link.specs.Heard.{IsWrongLength, HeardLines, HeardEnd};
 ghost use Rattle.fb_link.specs.Lines.{shown_line};
 
@@ -46,6 +47,7 @@ fn hear_size<P: Port>(port: &mut P) -> Result<u64, HearError>
     ensures untold { IsErrOf result HearError.Ended → P.peer port.old ≡ None }
     ensures kept { IsKept (P.aimed port.old) (P.aimed port.new) (P.last port.old) (P.last port.new) (P.stands port.old) (P.stands port.new) }
     ensures heard { IfOk result (λ n. AppendedHead (P.heard port.old) (P.heard port.new) n) }
+    ensures part { OnErr result (AppendedPart 8 (P.heard port.old) (P.heard port.new)) }
     ensures later { P.faults port.old ≤ P.faults port.new }
     ensures ends { P.ends port.old ≤ P.ends port.new }
     ensures cause { IsErrOf result HearError.Link → Rose (P.faults port.old) (P.faults port.new) }
@@ -58,17 +60,19 @@ fn hear_size<P: Port>(port: &mut P) -> Result<u64, HearError>
 }
 
 /// Receives the bytes of the next reply, and answers how many they are.
-#[tactic(auto, using(wire_model::proofs::NextLemmas::next_text, wire_model::proofs::ToldLemmas::hear_frame, wire_model::proofs::KeptLemmas::kept, wire_model::proofs::KeptLemmas::grown_frame))]
+#[tactic(auto, using(wire_model::proofs::NextLemmas::next_text, wire_model::proofs::ToldLemmas::hear_frame, wire_model::proofs::KeptLemmas::kept, wire_model::proofs::KeptLemmas::grown_frame, crate::proofs::BrokenLemmas::broken_parts))]
 fn hear_text<P: Port>(port: &mut P, buf: &mut [u8; 256]) -> Result<usize, LinkError>
     requires up { IsTrue (P.up port.old) }
     requires next { Next (P.peer port.old) }
     ensures within { IfOk result (λ n. n ≤ 256) }
+    ensures long_enough { IfOk result (λ n. 4 ≤ n) }
     ensures up { OnOk result (IsTrue (P.up port.new)) }
     ensures got { IfOk result (λ n. HeardReply (P.peer port.old) (P.peer port.new) (take n buf.new)) }
     ensures stays { OnErr result (Stays (P.peer port.old) (P.peer port.new)) }
     ensures untold { IsErrOf result LinkError.Ended → P.peer port.old ≡ None }
     ensures kept { IsKept (P.aimed port.old) (P.aimed port.new) (P.last port.old) (P.last port.new) (P.stands port.old) (P.stands port.new) }
     ensures heard { IfOk result (λ n. AppendedReply (P.heard port.old) (P.heard port.new) (take n buf.new)) }
+    ensures instead { (e : _) → IsErrOf result e → HeardInstead e (P.heard port.old) (P.heard port.new) }
     ensures later { P.faults port.old ≤ P.faults port.new }
     ensures ends { P.ends port.old ≤ P.ends port.new }
     ensures cause { IsErrOf result LinkError.Link → Rose (P.faults port.old) (P.faults port.new) }
@@ -97,7 +101,7 @@ fn hear_text<P: Port>(port: &mut P, buf: &mut [u8; 256]) -> Result<usize, LinkEr
 
 /// Hears the next reply. `BadLength` comes where its length isn't 4 to 256, `BadReply` where its bytes
 /// are none; neither comes over a connection that a port tells.
-#[tactic(auto, using(wire_model::proofs::NextLemmas::next_reply))]
+#[tactic(auto, using(wire_model::proofs::NextLemmas::next_reply, crate::proofs::BrokenLemmas::broken_reply))]
 pub fn hear_reply<P: Port>(port: &mut P) -> Result<Reply, LinkError>
     requires up { IsTrue (P.up port.old) }
     requires next { Next (P.peer port.old) }
@@ -108,6 +112,7 @@ pub fn hear_reply<P: Port>(port: &mut P) -> Result<Reply, LinkError>
     ensures untold { IsErrOf result LinkError.Ended → P.peer port.old ≡ None }
     ensures kept { IsKept (P.aimed port.old) (P.aimed port.new) (P.last port.old) (P.last port.new) (P.stands port.old) (P.stands port.new) }
     ensures heard { IfOk result (λ r. AppendedReply (P.heard port.old) (P.heard port.new) (reply_bytes r)) }
+    ensures instead { (e : _) → IsErrOf result e → HeardInstead e (P.heard port.old) (P.heard port.new) }
     ensures later { P.faults port.old ≤ P.faults port.new }
     ensures ends { P.ends port.old ≤ P.ends port.new }
     ensures cause { IsErrOf result LinkError.Link → Rose (P.faults port.old) (P.faults port.new) }
@@ -142,7 +147,7 @@ fn is_line(reply: &Reply) -> bool
 }
 
 /// Hears the next reply, and shows its line where it has one.
-#[tactic(auto, using(wire_model::proofs::NextLemmas::next_reply))]
+#[tactic(auto, using(wire_model::proofs::NextLemmas::next_reply, crate::proofs::BrokenLemmas::broken_lines))]
 fn hear_shown<P: Port, S: Sink>(port: &mut P, shown: &mut S) -> Result<Reply, Unheard>
     requires up { IsTrue (P.up port.old) }
     requires next { Next (P.peer port.old) }
@@ -151,6 +156,9 @@ fn hear_shown<P: Port, S: Sink>(port: &mut P, shown: &mut S) -> Result<Reply, Un
     ensures got { IfOk result (λ r. HeardReply (P.peer port.old) (P.peer port.new) (reply_bytes r)) }
     ensures heard { IfOk result (λ r. AppendedReply (P.heard port.old) (P.heard port.new) (reply_bytes r)) }
     ensures shown { IfOk result (λ r. Grew (S.text shown.old) (S.text shown.new) (shown_line r)) }
+    ensures instead { (e : _) → IsErrOf result (Unheard.Broken e) → HeardInstead e (P.heard port.old) (P.heard port.new) }
+    ensures silent { (e : _) → IsErrOf result (Unheard.Broken e) → S.text shown.new ≡ S.text shown.old }
+    ensures part { IsErrOf result Unheard.Unshown → LineInPart (P.heard port.old) (P.heard port.new) (S.text shown.old) (S.text shown.new) }
     ensures stays { OnErr result (Stays (P.peer port.old) (P.peer port.new)) }
     ensures untold { IsErrOf result (Unheard.Broken LinkError.Ended) → P.peer port.old ≡ None }
     ensures kept { IsKept (P.aimed port.old) (P.aimed port.new) (P.last port.old) (P.last port.new) (P.stands port.old) (P.stands port.new) }
@@ -188,7 +196,7 @@ pub(crate) struct End {
 }
 
 /// Hears replies up to the first that is no line, and shows each line.
-#[tactic(auto, using(crate::proofs::EndLemmas::hear_lines, crate::proofs::EndLemmas::hear_ends, wire_model::proofs::NextLemmas::next_loop, wire_model::proofs::KeptLemmas::kept))]
+#[tactic(auto, using(crate::proofs::EndLemmas::hear_lines, crate::proofs::EndLemmas::hear_ends, wire_model::proofs::NextLemmas::next_loop, wire_model::proofs::KeptLemmas::kept, crate::proofs::BrokenLemmas::broken_replies))]
 fn hear_replies<P: Port, S: Sink>(port: &mut P, shown: &mut S, before: u32) -> Result<End, Unheard>
     requires up { IsTrue (P.up port.old) }
     requires listening { Listening before (P.peer port.old) }
@@ -196,6 +204,8 @@ fn hear_replies<P: Port, S: Sink>(port: &mut P, shown: &mut S, before: u32) -> R
     ensures up { OnOk result (IsTrue (P.up port.new)) }
     ensures ended { IfOk result (λ e. HeardEnd before (P.peer port.old) (P.peer port.new) (P.heard port.old) (P.heard port.new) (S.text shown.old) (S.text shown.new) e.reply e.lines) }
     ensures below { IfOk result (λ e. e.lines < 10000) }
+    ensures broke { (e : _) → IsErrOf result (Unheard.Broken e) → BrokeOff before (P.heard port.old) (P.heard port.new) (S.text shown.old) (S.text shown.new) e }
+    ensures part { IsErrOf result Unheard.Unshown → ShownInPart before (P.heard port.old) (P.heard port.new) (S.text shown.old) (S.text shown.new) }
     ensures stays { OnErr result (Stays (P.peer port.old) (P.peer port.new)) }
     ensures kept { IsKept (P.aimed port.old) (P.aimed port.new) (P.last port.old) (P.last port.new) (P.stands port.old) (P.stands port.new) }
     ensures later { P.faults port.old ≤ P.faults port.new }
@@ -238,6 +248,8 @@ pub(crate) fn hear_end<P: Port, S: Sink>(
     ensures down { OnErr result (IsFalse (P.up port.new)) }
     ensures ended { IfOk result (λ e. HeardEnd before (P.peer port.old) (P.peer port.new) (P.heard port.old) (P.heard port.new) (S.text shown.old) (S.text shown.new) e.reply e.lines) }
     ensures below { IfOk result (λ e. e.lines < 10000) }
+    ensures broke { (e : _) → IsErrOf result (Unheard.Broken e) → BrokeOff before (P.heard port.old) (P.heard port.new) (S.text shown.old) (S.text shown.new) e }
+    ensures part { IsErrOf result Unheard.Unshown → ShownInPart before (P.heard port.old) (P.heard port.new) (S.text shown.old) (S.text shown.new) }
     ensures left { OnErr result (HungUp (P.peer port.old) (P.peer port.new)) }
     ensures kept { IsKept (P.aimed port.old) (P.aimed port.new) (P.last port.old) (P.last port.new) (P.stands port.old) (P.stands port.new) }
     ensures later { P.faults port.old ≤ P.faults port.new }

@@ -1,4 +1,4 @@
-ghost use Rattle.std.specs.Prelude.{◌≡◌, ◌≤◌, ◌<◌, true, None, Some, All, ◌+◌, length, take, drop, IfOk, refl, IsTrue, IsFalse};
+ghost use Rattle.std.specs.Prelude.{◌≡◌, [], ◌≤◌, ◌<◌, true, None, Some, All, ◌+◌, length, take, drop, IfOk, refl, IsFalse};
 ghost use Rattle.fb_frame.specs.Causes.{Rose};
 
 use crate::port::{AimError, LinkFault, Port, Target};
@@ -37,6 +37,11 @@ impl ScriptPort {
         room: usize,
     ) -> Result<ScriptPort, Memory>
         requires sizes { All (λ s. 1 ≤ s) sizes.items }
+        ensures astray { IfOk result (λ p. IsFalse (⟦<ScriptPort as Port>⟧.aimed p)) }
+        ensures down { IfOk result (λ p. IsFalse (⟦<ScriptPort as Port>⟧.up p)) }
+        ensures unheard { IfOk result (λ p. ⟦<ScriptPort as Port>⟧.heard p ≡ Some []) }
+        ensures faults { IfOk result (λ p. ⟦<ScriptPort as Port>⟧.faults p ≡ 0) }
+        ensures ends { IfOk result (λ p. ⟦<ScriptPort as Port>⟧.ends p ≡ 0) }
     {
         let sent = Vec::with_capacity(alloc, room).map_err(|_| Memory)?;
         let starts = Vec::with_capacity(alloc, connections.len()).map_err(|_| Memory)?;
@@ -204,72 +209,4 @@ impl Port for ScriptPort {
     }
 
     ghost takes_first = { λ loaded payload first. refl };
-}
-
-#[cfg(test)]
-mod tests {
-    use super::*;
-    use crate::replies::LinkError;
-    use crate::states::{Answer, Lost};
-    use fb_frame::memory_sink::MemorySink;
-    use fb_message::command::Command;
-    use std::test::Fail;
-
-    /// An aimed port whose one connection gives these bytes, so many at a time.
-    fn aimed(rt: &HostRuntime, bytes: &[u8], size: u32) -> Result<ScriptPort, Fail>
-        requires { 1 ≤ size }
-        ensures { IfOk result (λ p. IsTrue p.aimed) }
-    {
-        let mut connections = Vec::new(rt.alloc());
-        connections.push(bytes.to_vec(rt.alloc())?)?;
-        let sizes = Vec::from_array(rt.alloc(), [size])?;
-        let none = Vec::new(rt.alloc());
-        let mut port = ScriptPort::new(rt.alloc(), connections, sizes, none, 64)?;
-        port.aim(rt.alloc(), &Target::Image("script"))?;
-        Ok(port)
-    }
-
-    /// What a getvar hears: the last reply's letter, and the lines shown.
-    fn heard(rt: &HostRuntime, bytes: &[u8], size: u32) -> Result<u8, Fail>
-        requires { 1 ≤ size }
-    {
-        let port = aimed(rt, bytes, size)?;
-        let mut shown = MemorySink::new(rt.alloc(), 64)?;
-        let Ok(ready) = Lost::new(port).connect() else {
-            return Ok(b'c');
-        };
-        let letter = match ready.command(&Command::GetVar(b"version"), &mut shown) {
-            Answer::Okay(_, _) => b'o',
-            Answer::Fail(_, _) => b'f',
-            Answer::Load(_) => b'l',
-            Answer::Broken(_, LinkError::Ended) => b'e',
-            Answer::Broken(_, LinkError::BadLength(_)) => b'n',
-            Answer::Broken(_, LinkError::BadReply(_)) => b'r',
-            Answer::Broken(_, _) => b'b',
-            Answer::Unshown(_) => b'u',
-        };
-        Ok(letter)
-    }
-
-    #[test]
-    fn answers_what_was_heard(rt: HostRuntime) -> Result<(), Fail> {
-        assert_eq!(rt; heard(&rt, b"FB01\0\0\0\0\0\0\0\x07OKAY0.4", 1)?, b'o');
-        assert_eq!(rt; heard(&rt, b"FB01\0\0\0\0\0\0\0\x07OKAY0.4", 7)?, b'o');
-        assert_eq!(rt;
-            heard(
-                &rt,
-                b"FB01\0\0\0\0\0\0\0\x06INFOhi\0\0\0\0\0\0\0\x04OKAY",
-                3
-            )?,
-            b'o'
-        );
-        assert_eq!(rt; heard(&rt, b"FB01\0\0\0\0\0\0\0\x05FAILx", 9)?, b'f');
-        assert_eq!(rt; heard(&rt, b"FB01\0\0\0\0\0\0\0\x04XXXX", 9)?, b'r');
-        assert_eq!(rt; heard(&rt, b"FB01\0\0\0\0\0\0\0\x0cDATA00000001", 9)?, b'r');
-        assert_eq!(rt; heard(&rt, b"FB01\0\0\0\0\0\0\0\x03OKA", 9)?, b'n');
-        assert_eq!(rt; heard(&rt, b"FB01\0\0\0\0\0\0\x01\x01", 9)?, b'n');
-        assert_eq!(rt; heard(&rt, b"FB01", 9)?, b'e');
-        assert_eq!(rt; heard(&rt, b"FB00", 9)?, b'c');
-        Ok(())
-    }
 }

@@ -7,7 +7,9 @@ ghost use Rattle.fb_message.specs.CommandText.{command_value, is_written};
 ghost use Rattle.wire_model.specs.Answered.{Between, Free, IsVerdict, Downloading, Sound, Took, is_line};
 ghost use Rattle.wire_model.specs.Places.{IsKept};
 ghost use Rattle.wire_model.specs.Told.{HungUp, IsBarred, Opened};
-ghost use Rattle.fb_link.specs.Concluded.{Concluded, LeftIn, CommandPasses, IsUndue, IsNoVerdict, Finished};
+ghost use Rattle.fb_link.specs.Answers.{port_of};
+ghost use Rattle.fb_link.specs.Broken.{BrokeOff, HeardAlone, HeardAtMost, ShownInPart};
+ghost use Rattle.fb_link.specs.Concluded.{Concluded, ConcludedBehind, LeftIn, CommandPasses, IsUndue, IsNoVerdict, Finished};
 ghost use Rattle.fb_link.specs.Heard.{IsWrongLength};
 ghost use Rattle.fb_link.specs.States.{InData};
 
@@ -29,6 +31,8 @@ pub struct Lost<P> {
 }
 
 impl<P> Model for Lost<P> {
+    ghost use Rattle.std.specs.Prelude.{ℕ};
+
     ghost Value = { P };
 
     ghost view = { λ l. l.port };
@@ -41,6 +45,9 @@ pub struct Ready<P: Port> {
 }
 
 impl<P: Port> Model for Ready<P> {
+    ghost use Rattle.std.specs.Prelude.{IsTrue};
+    ghost use Rattle.wire_model.specs.Answered.{Between};
+
     ghost Value = { P };
 
     ghost view = { λ r. r.port };
@@ -58,6 +65,10 @@ pub struct Sending<P: Port> {
 }
 
 impl<P: Port> Model for Sending<P> {
+    ghost use Rattle.std.specs.Prelude.{◌<◌, IsTrue};
+    ghost use Rattle.wire_model.specs.Answered.{Downloading};
+    ghost use Rattle.fb_link.specs.States.{InData};
+
     ghost Value = { InData P };
 
     ghost view = { λ s. record { port = s.port; left = s.left; lines = s.lines } };
@@ -101,6 +112,8 @@ impl<P: Port> Lost<P> {
         requires sound { Sound (P.peer self) }
         ensures opened { IfOk result (λ r. Opened (2 ^ 61) (P.peer self) (P.peer r)) }
         ensures free { IfOk result (λ r. Free (P.peer r)) }
+        ensures barred { IfOk result (λ r. IsBarred (P.peer self) → ⊥) }
+        ensures greeted { IfOk result (λ r. HeardAlone (P.heard self) (P.heard r) (handshake 1)) }
         ensures down { (lost : _) (e : _) → IsErrOf result (lost, e) → IsFalse (P.up lost) }
         ensures left { (lost : _) (e : _) → IsErrOf result (lost, e) → HungUp (P.peer self) (P.peer lost) }
         ensures kept { IfOk result (λ r. IsKept (P.aimed self) (P.aimed r) (P.last self) (P.last r) (P.stands self) (P.stands r)) }
@@ -110,6 +123,12 @@ impl<P: Port> Lost<P> {
         ensures untold { (lost : _) → IsErrOf result (lost, LinkError.Ended) → P.peer self ≡ None }
         ensures shake { (lost : _) (four : _) → IsErrOf result (lost, LinkError.BadHandshake four) → four ≢ handshake 1 }
         ensures shake_untold { (lost : _) (four : _) → IsErrOf result (lost, LinkError.BadHandshake four) → P.peer self ≡ None }
+        ensures shake_heard { (lost : _) (four : _) → IsErrOf result (lost, LinkError.BadHandshake four) → HeardAlone (P.heard self) (P.heard lost) four }
+        ensures sound_lost { (lost : _) (e : _) → IsErrOf result (lost, e) → Sound (P.peer lost) }
+        ensures later { IfOk result (λ r. P.faults self ≤ P.faults r) }
+        ensures later_lost { (lost : _) (e : _) → IsErrOf result (lost, e) → P.faults self ≤ P.faults lost }
+        ensures ends { IfOk result (λ r. P.ends self ≤ P.ends r) }
+        ensures ends_lost { (lost : _) (e : _) → IsErrOf result (lost, e) → P.ends self ≤ P.ends lost }
         ensures length { (lost : _) (n : _) → IsErrOf result (lost, LinkError.BadLength n) → ⊥ }
         ensures reply { (lost : _) (p : _) → IsErrOf result (lost, LinkError.BadReply p) → ⊥ }
         ensures few { (lost : _) → IsErrOf result (lost, LinkError.TooManyInfos) → ⊥ }
@@ -132,6 +151,8 @@ fn conclude<P: Port>(port: P, end: End) -> Answer<P>
     ensures okay { (ready : _) (line : _) → result ≡ Answer.Okay ready line → (ready ≡ port) × (end.reply ≡ Reply.Okay line) }
     ensures fail { (ready : _) (line : _) → result ≡ Answer.Fail ready line → (ready ≡ port) × (end.reply ≡ Reply.Fail line) }
     ensures load { (sending : _) → result ≡ Answer.Load sending → (sending.port ≡ port) × (end.reply ≡ Reply.Load sending.left) }
+    ensures lines { (sending : _) → result ≡ Answer.Load sending → sending.lines ≡ end.lines }
+    ensures port { port_of result ≡ port }
     ensures broken { (lost : _) (e : _) → result ≡ Answer.Broken lost e → ⊥ }
     ensures unshown { (lost : _) → result ≡ Answer.Unshown lost → ⊥ }
 {
@@ -147,6 +168,7 @@ fn conclude<P: Port>(port: P, end: End) -> Answer<P>
 impl<P: Port> Ready<P> {
     /// Sends a command and hears its replies, up to the one that ends it. Each INFO and TEXT before it is
     /// shown as a line.
+    #[tactic(auto, using(crate::proofs::BrokenLemmas::heard_most))]
     pub fn command<S: Sink>(self, command: &Command<'_>, shown: &mut S) -> Answer<P>
         requires free { Free (P.peer self) }
         requires written { IsTrue (is_written (command_value command.now)) }
@@ -154,6 +176,14 @@ impl<P: Port> Ready<P> {
         ensures okay { (ready : _) (line : _) → result ≡ Answer.Okay ready line → Concluded (command_value command.now) (P.faults self) (P.faults ready) (P.peer self) (P.peer ready) (P.heard self) (P.heard ready) (S.text shown.old) (S.text shown.new) (Reply.Okay line) }
         ensures fail { (ready : _) (line : _) → result ≡ Answer.Fail ready line → Concluded (command_value command.now) (P.faults self) (P.faults ready) (P.peer self) (P.peer ready) (P.heard self) (P.heard ready) (S.text shown.old) (S.text shown.new) (Reply.Fail line) }
         ensures load { (sending : _) → result ≡ Answer.Load sending → Concluded (command_value command.now) (P.faults self) (P.faults sending.port) (P.peer self) (P.peer sending.port) (P.heard self) (P.heard sending.port) (S.text shown.old) (S.text shown.new) (Reply.Load sending.left) }
+        ensures lines { (sending : _) → result ≡ Answer.Load sending → ConcludedBehind (command_value command.now) (P.faults self) (P.faults sending.port) (P.peer self) (P.peer sending.port) (P.heard self) (P.heard sending.port) (S.text shown.old) (S.text shown.new) (Reply.Load sending.left) sending.lines }
+        ensures broke { (lost : _) (e : _) → result ≡ Answer.Broken lost e → BrokeOff 0 (P.heard self) (P.heard lost) (S.text shown.old) (S.text shown.new) e }
+        ensures part { (lost : _) → result ≡ Answer.Unshown lost → ShownInPart 0 (P.heard self) (P.heard lost) (S.text shown.old) (S.text shown.new) }
+        ensures most { HeardAtMost 0 (P.heard self) (P.heard (port_of result)) }
+        ensures kept { IsKept (P.aimed self) (P.aimed (port_of result)) (P.last self) (P.last (port_of result)) (P.stands self) (P.stands (port_of result)) }
+        ensures later { P.faults self ≤ P.faults (port_of result) }
+        ensures ends { P.ends self ≤ P.ends (port_of result) }
+        ensures shown_later { S.faults shown.old ≤ S.faults shown.new }
         ensures down { (lost : _) (e : _) → result ≡ Answer.Broken lost e → IsFalse (P.up lost) }
         ensures left { (lost : _) (e : _) → result ≡ Answer.Broken lost e → LeftIn (command_value command.now) (P.faults self) (P.faults lost) (P.peer self) (P.peer lost) }
         ensures sound { (lost : _) (e : _) → result ≡ Answer.Broken lost e → Sound (P.peer lost) }
@@ -180,10 +210,13 @@ impl<P: Port> Ready<P> {
     }
 
     /// Ends the connection.
+    #[tactic(auto, using(crate::proofs::TypedLemmas::sound_states))]
     pub fn hang_up(self) -> Lost<P>
         ensures down { IsFalse (P.up result) }
         ensures left { HungUp (P.peer self) (P.peer result) }
         ensures kept { IsKept (P.aimed self) (P.aimed result) (P.last self) (P.last result) (P.stands self) (P.stands result) }
+        ensures sound { Sound (P.peer result) }
+        ensures heard { P.heard result ≡ P.heard self }
         ensures faults { P.faults result ≡ P.faults self }
         ensures ends { P.ends result ≡ P.ends self }
     {
@@ -202,6 +235,7 @@ impl<P: Port> Sending<P> {
     }
 
     /// Sends the next bytes of the data in one frame: 1 to 65,536, and no more than are left.
+    #[tactic(auto, using(crate::proofs::TypedLemmas::sound_states))]
     pub fn write(self, bytes: &[u8]) -> Result<Sending<P>, (Lost<P>, LinkError)>
         requires some { 0 < length bytes.now }
         requires small { length bytes.now ≤ 65536 }
@@ -216,6 +250,11 @@ impl<P: Port> Sending<P> {
         ensures kept_lost { (lost : _) (e : _) → IsErrOf result (lost, e) → IsKept (P.aimed self.port) (P.aimed lost) (P.last self.port) (P.last lost) (P.stands self.port) (P.stands lost) }
         ensures cause { (lost : _) (e : _) → IsErrOf result (lost, e) → Rose (P.faults self.port) (P.faults lost) }
         ensures link { (lost : _) (e : _) → IsErrOf result (lost, e) → e ≡ LinkError.Link }
+        ensures sound { (lost : _) (e : _) → IsErrOf result (lost, e) → Sound (P.peer lost) }
+        ensures heard_lost { (lost : _) (e : _) → IsErrOf result (lost, e) → P.heard lost ≡ P.heard self.port }
+        ensures later { IfOk result (λ s. P.faults self.port ≤ P.faults s.port) }
+        ensures ends { IfOk result (λ s. P.ends s.port ≡ P.ends self.port) }
+        ensures ends_lost { (lost : _) (e : _) → IsErrOf result (lost, e) → P.ends lost ≡ P.ends self.port }
     {
         let Sending {
             mut port,
@@ -233,10 +272,21 @@ impl<P: Port> Sending<P> {
     }
 
     /// Hears the end of the download, when no data is left to send. Each INFO and TEXT before it is shown.
+    #[tactic(auto, using(crate::proofs::TypedLemmas::sound_states, crate::proofs::BrokenLemmas::heard_most))]
     pub fn finish<S: Sink>(self, shown: &mut S) -> Answer<P>
         requires all { self.left ≡ 0 }
         ensures okay { (ready : _) (line : _) → result ≡ Answer.Okay ready line → Finished self.lines (P.peer self.port) (P.peer ready) (P.heard self.port) (P.heard ready) (S.text shown.old) (S.text shown.new) (Reply.Okay line) }
         ensures fail { (ready : _) (line : _) → result ≡ Answer.Fail ready line → Finished self.lines (P.peer self.port) (P.peer ready) (P.heard self.port) (P.heard ready) (S.text shown.old) (S.text shown.new) (Reply.Fail line) }
+        ensures load { (sending : _) → result ≡ Answer.Load sending → ⊥ }
+        ensures broke { (lost : _) (e : _) → result ≡ Answer.Broken lost e → BrokeOff self.lines (P.heard self.port) (P.heard lost) (S.text shown.old) (S.text shown.new) e }
+        ensures part { (lost : _) → result ≡ Answer.Unshown lost → ShownInPart self.lines (P.heard self.port) (P.heard lost) (S.text shown.old) (S.text shown.new) }
+        ensures most { HeardAtMost self.lines (P.heard self.port) (P.heard (port_of result)) }
+        ensures kept { IsKept (P.aimed self.port) (P.aimed (port_of result)) (P.last self.port) (P.last (port_of result)) (P.stands self.port) (P.stands (port_of result)) }
+        ensures later { P.faults self.port ≤ P.faults (port_of result) }
+        ensures ends { P.ends self.port ≤ P.ends (port_of result) }
+        ensures shown_later { S.faults shown.old ≤ S.faults shown.new }
+        ensures sound { (lost : _) (e : _) → result ≡ Answer.Broken lost e → Sound (P.peer lost) }
+        ensures unshown_sound { (lost : _) → result ≡ Answer.Unshown lost → Sound (P.peer lost) }
         ensures down { (lost : _) (e : _) → result ≡ Answer.Broken lost e → IsFalse (P.up lost) }
         ensures left { (lost : _) (e : _) → result ≡ Answer.Broken lost e → HungUp (P.peer self.port) (P.peer lost) }
         ensures unshown_down { (lost : _) → result ≡ Answer.Unshown lost → IsFalse (P.up lost) }
@@ -265,10 +315,13 @@ impl<P: Port> Sending<P> {
     }
 
     /// Ends the connection amid the download.
+    #[tactic(auto, using(crate::proofs::TypedLemmas::sound_states))]
     pub fn abandon(self) -> Lost<P>
         ensures down { IsFalse (P.up result) }
         ensures left { HungUp (P.peer self.port) (P.peer result) }
         ensures kept { IsKept (P.aimed self.port) (P.aimed result) (P.last self.port) (P.last result) (P.stands self.port) (P.stands result) }
+        ensures sound { Sound (P.peer result) }
+        ensures heard { P.heard result ≡ P.heard self.port }
         ensures faults { P.faults result ≡ P.faults self.port }
         ensures ends { P.ends result ≡ P.ends self.port }
     {

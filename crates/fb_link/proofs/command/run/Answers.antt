@@ -6,7 +6,7 @@ use Rattle.fb_link.specs.Heard.{HeardEnd}
 use Rattle.fb_link.specs.Concluded.{LeftIn}
 use Rattle.wire_model.specs.Answered.{Sound}
 use Rattle.wire_model.proofs.StateLemmas.{suits-load, announces-download}
-use Rattle.fb_link.proofs.TypedLemmas.{LeftIn-from, LeftIn-heard, Sound-between, Sound-in, Between-again, Downloading-now, spelled-some, untold-unsuited, concluded-from}
+use Rattle.fb_link.proofs.TypedLemmas.{LeftIn-from, LeftIn-heard, Sound-between, Sound-in, Between-again, Downloading-now, spelled-some, untold-unsuited, concluded-behind}
 use Rattle.fb_link.proofs.command.run.Goals as goal
 
 pub returns-in_err-end-clause-left : goal.returns-in_err-end-clause-left
@@ -29,14 +29,17 @@ returns-then-not-suits-clause-reply g c =
     let short : length c.bytes.result.now ≤ 4096 = omega (arith, c.bytes.ensures.short, ap length c.bytes.ensures.bytes) in
     λ p e. untold-unsuited _ _ _ _ _ _ _ _ _ _ _ _ _ c.requires.between c.requires.free (spelled-some (command_value c.args.command.now) c.bytes.result.now spelled) short spelled c.in-Ok.ensures.sent c.in_ok-end.ensures.ended unfit
 
-pub returns-clause-concluded : goal.returns-clause-concluded
-returns-clause-concluded g c =
+pub returns-clause-behind : goal.returns-clause-behind
+returns-clause-behind g c =
     let spelled : spelling (command_value c.args.command.now) ≡ Some c.bytes.result.now = c.write_command.ensures ∙ ap Some (sym c.bytes.ensures.bytes) in
     let fit : suits (command_value c.args.command.now) c.in_ok-end.end.reply ≡ true = search rules in
     let short : length c.bytes.result.now ≤ 4096 = omega (arith, c.bytes.ensures.short, ap length c.bytes.ensures.bytes) in
     let ended = subst (λ x. HeardEnd 0 (g.P.Port.peer c.send_frame.new.port) (g.P.Port.peer c.hear_end.new.port) x (g.P.Port.heard c.hear_end.new.port) (g.S.Sink.text c.args.shown.now) (g.S.Sink.text c.hear_end.new.shown) c.in_ok-end.end.reply c.in_ok-end.end.lines)
     c.send_frame.ensures.heard c.in_ok-end.ensures.ended in
-    concluded-from _ _ _ _ c.hear_end.ensures.later _ _ _ _ _ _ _ _ _ _ c.requires.between c.requires.free (spelled-some (command_value c.args.command.now) c.bytes.result.now spelled) short spelled c.in-Ok.ensures.sent ended c.in_ok-end.ensures.below fit
+    concluded-behind _ _ _ _ c.hear_end.ensures.later _ _ _ _ _ _ _ _ _ _ c.requires.between c.requires.free (spelled-some (command_value c.args.command.now) c.bytes.result.now spelled) short spelled c.in-Ok.ensures.sent ended c.in_ok-end.ensures.below fit
+
+pub returns-clause-concluded : goal.returns-clause-concluded
+returns-clause-concluded g c = (returns-clause-behind g c).0
 
 pub returns-in_default-clause-sound : goal.returns-in_default-clause-sound
 returns-in_default-clause-sound g c =
