@@ -11,3 +11,6 @@ pub mod PutLemmas
 pub mod PieceLemmas
 pub mod ReachLemmas
 pub mod WholeLemmas
+pub mod RestLemmas
+pub mod GrowLemmas
+pub mod CuttingLemmas

@@ -82,7 +82,7 @@ first-total (chunk ∷ chunks) n =
     (λ k. rw k.0 (⊎_elim (λ j. rw j.0 (omega (arith, j.1))) (λ j. rw j.0 (omega (arith, s, k.1))) (eqb_tells n 0)))
     (leb_tells chunk.blocks n)
 
-behind-total : (block : ℕ) (chunks : List Chunk) (n : ℕ) → sum_by (λ (c : Chunk). c.blocks) (behind_blocks block n chunks) ≡ sum_by (λ (c : Chunk). c.blocks) chunks - n
+pub behind-total : (block : ℕ) (chunks : List Chunk) (n : ℕ) → sum_by (λ (c : Chunk). c.blocks) (behind_blocks block n chunks) ≡ sum_by (λ (c : Chunk). c.blocks) chunks - n
 behind-total block [] n = omega arith
 behind-total block (chunk ∷ chunks) n =
     let s = sum_by-cons (λ (c : Chunk). c.blocks) chunk chunks in

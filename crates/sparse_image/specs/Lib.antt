@@ -3,3 +3,5 @@ pub mod Walks
 pub mod Laws
 pub mod Runs
 pub mod Pieces
+pub mod Cuts
+pub mod Reaches
