@@ -14,3 +14,4 @@ pub mod WholeLemmas
 pub mod RestLemmas
 pub mod GrowLemmas
 pub mod CuttingLemmas
+pub mod SplitLemmas

@@ -102,7 +102,7 @@ hole-total : (n : ℕ) → sum_by (λ (c : Chunk). c.blocks) (hole n) ≡ n
 hole-total n = ⊎_elim (λ k. rw k.0 (sym k.1)) (λ k. rw k.0 (omega arith)) (eqb_tells n 0)
 
 -- what a piece's chunks are
-piece-each : (kept : Kept) (len first last : ℕ) → All (IsChunk kept.block len) kept.chunks → All (IsChunk kept.block len) (piece_chunks kept first last)
+pub piece-each : (kept : Kept) (len first last : ℕ) → All (IsChunk kept.block len) kept.chunks → All (IsChunk kept.block len) (piece_chunks kept first last)
 piece-each kept len first last w =
     let rest = behind_blocks kept.block first kept.chunks in
     All-append (IsChunk kept.block len) (hole first) (first_blocks (last - first) rest ++ hole (kept.blocks - last)) (hole-each kept.block len first)

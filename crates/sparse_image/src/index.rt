@@ -3,7 +3,7 @@ ghost use Rattle.std.specs.Result.{IsErrOf};
 ghost use Rattle.fb_frame.specs.Causes.{Rose, HasCause};
 ghost use Rattle.dev_model.specs.Images.{image, is_sparse};
 ghost use Rattle.sparse_image.specs.Pieces.{whole_len};
-ghost use Rattle.sparse_image.specs.Cuts.{Cutting};
+ghost use Rattle.sparse_image.specs.Cuts.{Cutting, Part, AreCut, AreSplit};
 ghost use Rattle.sparse_image.specs.Walks.{checked, sparse_checked, raw_checked, kept_cells, front_of, header_of, chunk_len, kept, walked, LiesIn, IsFine, AreWell};
 
 use crate::chunk::{Chunk, Content};
@@ -213,6 +213,7 @@ impl Index {
     pub fn pieces(&self, max: u32) -> Pieces<'_>
         requires { 131072 ≤ max }
         ensures begin { result ≡ record { kept = self.now; max = max; first = 0 } }
+        ensures split { (file : List ℕ) (parts : List Part) → checked file ≡ Ok self.now → AreCut result parts → AreSplit self.now file max parts }
     {
         let rest = Rest::new(self.block, self.chunks.as_slice());
         Pieces::new(self, max, rest)

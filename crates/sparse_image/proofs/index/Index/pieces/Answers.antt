@@ -1,8 +1,10 @@
-use Rattle.std.proofs.Common.{◌*◌, ◌-◌, ◌^◌, List, sym, subst}
+use Rattle.std.proofs.Common.{arith, ◌*◌, ◌-◌, ◌^◌, List, sym, subst}
 use Rattle.std.specs.List.{All}
 use Rattle.sparse_image.specs.declared.chunk.Chunk.{Chunk}
 use Rattle.sparse_image.specs.Walks.{Kept, LiesIn, IsKept, source_room}
 use Rattle.sparse_image.proofs.CuttingLemmas.{lies-more, room-fits}
+use Rattle.sparse_image.specs.Cuts.{Cutting, AreCut}
+use Rattle.sparse_image.proofs.SplitLemmas.{split-whole}
 use Rattle.sparse_image.proofs.index.Index.pieces.Goals as goal
 
 all-lies : (kept : Kept) → IsKept kept → All (λ (chunk : Chunk). LiesIn (2 ^ 64 - 1) (chunk.blocks * kept.block) chunk.content) kept.chunks
@@ -16,3 +18,8 @@ new-rest-requires-clause-lies c =
 
 pub new-requires-clause-index : goal.new-requires-clause-index
 new-requires-clause-index c = rw (← c.self.view_is) c.self.invariant
+
+pub returns-clause-split : goal.returns-clause-split
+returns-clause-split c file parts h cut =
+    let w : IsKept c.args.self.now = rw (← c.self.view_is) c.self.invariant in
+    split-whole file c.args.self.now c.args.max h w.count (omega arith) parts (subst (λ (cutting : Cutting). AreCut cutting parts) c.new.ensures cut)
