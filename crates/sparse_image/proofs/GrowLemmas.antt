@@ -1,18 +1,19 @@
 -- How a piece grows as far as both bounds are kept.
-use Rattle.std.proofs.Common.{◌≡◌, ℕ, ◌+◌, ◌-◌, ◌*◌, ◌<◌, ◌≤◌, List, [], ◌∷◌, ◌++◌, length, length-append, Some, None, refl, sym, ap, ◌∙◌, arith, ⊎_elim, ◌⊎◌, inl, inr}
+use Rattle.std.proofs.Common.{◌≡◌, ℕ, ◌+◌, ◌-◌, ◌*◌, ◌<◌, ◌≤◌, min, List, [], ◌∷◌, ◌++◌, length, length-append, Some, None, refl, sym, ap, ◌∙◌, arith, ⊎_elim, ◌⊎◌, inl, inr}
 use Rattle.std.specs.List.{sum_by, All}
 use Rattle.std.proofs.lemmas.List.{append_assoc}
 use Rattle.std.proofs.lemmas.List.Sums.{sum_by-cons, sum_by-append, sum_by_push}
 use Rattle.std.proofs.lemmas.List.Elements.{All-nil, All-head, All-tail, All-push}
 use Rattle.sparse_image.specs.declared.chunk.Chunk.{Chunk}
 use Rattle.sparse_image.specs.declared.reach.Reach.{Reach}
+use Rattle.sparse_image.specs.declared.rest.Rest.{Rest}
 use Rattle.sparse_image.specs.Walks.{Kept, chunk_len, content_len}
 use Rattle.sparse_image.specs.Pieces.{first_blocks, behind_blocks, hole, piece_chunks, sparse_len, Fits}
 use Rattle.sparse_image.specs.Cuts.{first_chunk, rest_chunks, IsRest}
 use Rattle.sparse_image.specs.Reaches.{holes_behind, Keeps, Breaks, IsReach, IsSame, Grows, GrowsBy, GrowsInPart, Begins, IsGrown}
 use Rattle.sparse_image.proofs.PieceLemmas.{behind-total}
 use Rattle.sparse_image.proofs.ReachLemmas.{stuck-greatest, IsStuck, bytes_of, count_of, hole-len, piece-len, piece-count, first-append, behind-append, behind-twice}
-use Rattle.sparse_image.proofs.RestLemmas.{behind-some, behind-first}
+use Rattle.sparse_image.proofs.RestLemmas.{behind-some, behind-first, first-step}
 
 -- the first chunk stands before the others
 pub first-cons : (chunks : List Chunk) (chunk : Chunk) → first_chunk chunks ≡ Some chunk → (more : List Chunk) × (chunks ≡ chunk ∷ more)
@@ -205,3 +206,14 @@ module _ (kept : Kept) (before mid : Reach) (done : List Chunk) (b : Begins kept
         let same : IsSame before now = record { max = p.same.max ∙ g.same.max; blocks = p.same.blocks ∙ g.same.blocks; block = p.same.block ∙ g.same.block } in
         grown-at now part v same p.at p.bytes p.chunks (p.rest ∙ ap (λ (x : ℕ). behind_blocks x part (rest_chunks mid.rest)) block-is) further
         (λ place fits. omega (arith, stuck-greatest kept now.max before.at done chunk more part stuck place fits, p.at, g.at))
+
+-- the first blocks of the chunks from a block on: those of the next chunk, and those behind them
+pub rest-step : (rest : Rest) (chunk : Chunk) (left blocks : ℕ) → IsRest rest → first_chunk (rest_chunks rest) ≡ Some chunk → 0 < left → blocks ≡ min chunk.blocks left →
+    first_blocks left (rest_chunks rest) ≡ record { blocks = blocks; content = chunk.content } ∷ first_blocks (left - blocks) (behind_blocks rest.block blocks (rest_chunks rest))
+rest-step rest chunk left blocks w h l e =
+    let f = first-cons (rest_chunks rest) chunk h in
+    let some = behind-some rest.block rest.skip rest.chunks.now w.inside w.some in
+    let more = All-tail (λ (c : Chunk). 0 < c.blocks) chunk f.0 (rw f.1 at some) in
+    ap (λ (xs : List Chunk). first_blocks left xs) f.1
+    ∙ first-step rest.block left blocks chunk f.0 more l e
+    ∙ ap (λ (xs : List Chunk). record { blocks = blocks; content = chunk.content } ∷ first_blocks (left - blocks) (behind_blocks rest.block blocks xs)) (sym f.1)

@@ -15,3 +15,6 @@ pub mod RestLemmas
 pub mod GrowLemmas
 pub mod CuttingLemmas
 pub mod SplitLemmas
+pub mod PaddedLemmas
+pub mod WriteLemmas
+pub mod PartLemmas

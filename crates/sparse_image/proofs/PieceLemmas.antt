@@ -34,12 +34,12 @@ cells-long block source f (chunk ∷ chunks) w =
     ∙ omega (arith, own, others, spent (sum_by (λ (c : Chunk). c.blocks) (chunk ∷ chunks)) chunk.blocks (sum_by (λ (c : Chunk). c.blocks) chunks) block (sum_by-cons (λ (c : Chunk). c.blocks) chunk chunks))
 
 -- parts of chunks are chunks
-part-lies : (len n m block : ℕ) (content : Content) → n ≤ m → LiesIn len (m * block) content → LiesIn len (n * block) content
+pub part-lies : (len n m block : ℕ) (content : Content) → n ≤ m → LiesIn len (m * block) content → LiesIn len (n * block) content
 part-lies len n m block (Raw place) h l = let k = mul-le-mul_right block h in omega arith
 part-lies len n m block (Fill pattern) h l = tt
 part-lies len n m block DontCare h l = tt
 
-behind-lies : (len n m block : ℕ) (content : Content) → n ≤ m → LiesIn len (m * block) content → LiesIn len ((m - n) * block) (content_behind (n * block) content)
+pub behind-lies : (len n m block : ℕ) (content : Content) → n ≤ m → LiesIn len (m * block) content → LiesIn len ((m - n) * block) (content_behind (n * block) content)
 behind-lies len n m block (Raw place) h l = omega (arith, spent m n (m - n) block (omega arith))
 behind-lies len n m block (Fill pattern) h l = tt
 behind-lies len n m block DontCare h l = tt
@@ -49,7 +49,7 @@ behind-four n (Raw place) f = tt
 behind-four n (Fill pattern) f = f
 behind-four n DontCare f = tt
 
-first-each : (block len : ℕ) (chunks : List Chunk) (n : ℕ) → All (IsChunk block len) chunks → All (IsChunk block len) (first_blocks n chunks)
+pub first-each : (block len : ℕ) (chunks : List Chunk) (n : ℕ) → All (IsChunk block len) chunks → All (IsChunk block len) (first_blocks n chunks)
 first-each block len [] n w = All-nil (IsChunk block len)
 first-each block len (chunk ∷ chunks) n w =
     let own = All-head (IsChunk block len) chunk chunks w in
@@ -61,7 +61,7 @@ first-each block len (chunk ∷ chunks) n w =
     (eqb_tells n 0)))
     (leb_tells chunk.blocks n)
 
-behind-each : (block len : ℕ) (chunks : List Chunk) (n : ℕ) → All (IsChunk block len) chunks → All (IsChunk block len) (behind_blocks block n chunks)
+pub behind-each : (block len : ℕ) (chunks : List Chunk) (n : ℕ) → All (IsChunk block len) chunks → All (IsChunk block len) (behind_blocks block n chunks)
 behind-each block len [] n w = All-nil (IsChunk block len)
 behind-each block len (chunk ∷ chunks) n w =
     let own = All-head (IsChunk block len) chunk chunks w in

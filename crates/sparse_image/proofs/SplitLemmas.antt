@@ -55,7 +55,7 @@ all-cells block blocks cells l =
     let r : (blocks - blocks) * block ≡ 0 = ap (λ (x : ℕ). x * block) b ∙ z in
     rw (z, n, r) (append-nil (take (length cells) cells) ∙ take_all (length cells) cells (omega arith))
 
-whole-cells : (file : List ℕ) (kept : Kept) (first last : ℕ) → checked file ≡ Ok kept → first ≡ 0 → last ≡ kept.blocks → piece_cells kept file first last ≡ kept_cells kept file
+pub whole-cells : (file : List ℕ) (kept : Kept) (first last : ℕ) → checked file ≡ Ok kept → first ≡ 0 → last ≡ kept.blocks → piece_cells kept file first last ≡ kept_cells kept file
 whole-cells file kept first last h e f =
     ap (λ (x : ℕ). piece_cells kept file x last) e ∙ ap (λ (x : ℕ). piece_cells kept file 0 x) f ∙ all-cells kept.block kept.blocks (kept_cells kept file) (kept-long file kept h)
 

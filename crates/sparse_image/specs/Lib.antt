@@ -5,3 +5,4 @@ pub mod Runs
 pub mod Pieces
 pub mod Cuts
 pub mod Reaches
+pub mod Puts

@@ -10,11 +10,13 @@ pub mod index;
 pub mod out;
 pub mod piece;
 pub mod pieces;
+pub mod puts;
 mod reach;
 mod reads;
 mod rest;
 pub mod runs;
 pub mod source;
+mod spell;
 mod walk;
 pub mod writes;
 
