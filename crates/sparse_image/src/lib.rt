@@ -10,7 +10,7 @@ pub mod index;
 pub mod out;
 pub mod piece;
 pub mod pieces;
-pub mod puts;
+mod puts;
 mod reach;
 mod reads;
 mod rest;

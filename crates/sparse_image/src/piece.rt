@@ -9,9 +9,10 @@ ghost use Rattle.sparse_image.specs.Cuts.{IsRest, part_len, part_bytes, part_cel
 ghost use Rattle.sparse_image.specs.Puts.{Puts, PutsInPart};
 ghost use Rattle.sparse_image.specs.Reaches.{IsEnded};
 
+use crate::errors::PieceFault;
 use crate::index::Index;
 use crate::out::Out;
-use crate::puts::{PieceFault, copy, put_chunks, put_front, put_hole};
+use crate::puts::{copy, put_chunks, put_front, put_hole};
 use crate::reach::Reach;
 use crate::rest::Rest;
 use crate::source::Bytes;

@@ -9,21 +9,13 @@ ghost use Rattle.sparse_image.specs.Cuts.{rest_chunks, IsRest};
 ghost use Rattle.sparse_image.specs.Puts.{Puts, PutsInPart, padded_part, padded_data, padded_chunk, padded_chunks, hole_bytes};
 
 use crate::chunk::{Chunk, Content};
+use crate::errors::PieceFault;
 use crate::out::Out;
 use crate::reads::read_padded;
 use crate::rest::Rest;
 use crate::source::Bytes;
 use crate::spell::head_bytes;
 use crate::walk::{DONT_CARE, HEAD};
-
-/// Why a piece wasn't written.
-#[derive(Debug, Drop)]
-pub enum PieceFault {
-    /// The source couldn't be read.
-    Read,
-    /// The out couldn't take the bytes.
-    Out,
-}
 
 /// Copies a window's worth of a source's bytes from a place on, with zeros behind their end.
 #[tactic(auto, using(crate::proofs::WriteLemmas::puts))]
