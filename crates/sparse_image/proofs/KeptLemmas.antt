@@ -12,6 +12,7 @@ use Rattle.sparse_image.specs.declared.chunk.Chunk.{Chunk}
 use Rattle.sparse_image.specs.declared.walk.Header.{Header}
 use Rattle.sparse_image.specs.Walks.{Kept, checked, sparse_checked, raw_checked, raw_kept, header_of, front_of, walked, kept, chunk_len, source_of, or_flaw, end_flaw, LiesIn, flaw, ◌then_on◌}
 use Rattle.sparse_image.specs.declared.errors.SparseKind.TheVariants.{TooLong, Empty}
+use Rattle.sparse_image.specs.Pieces.{whole_len}
 use Rattle.sparse_image.proofs.WalkLemmas.{front-lies, front-four, front-due, front-within, header-fine, header-long, padded-length}
 use Rattle.sparse_image.proofs.CutLemmas.{IsChunk}
 
@@ -84,6 +85,7 @@ pub record IsWell (kept : Kept) (source : List ℕ) : Type 0 where
   pub some : 0 < kept.blocks
   pub short : kept.blocks * kept.block ≤ 2 ^ 44
   pub chunks : AreKept kept.block (length source) kept.blocks 1000000 kept.chunks
+  pub long : length source ≡ whole_len kept
 
 fewer : (block len blocks n m : ℕ) (chunks : List Chunk) → n ≤ m → AreKept block len blocks n chunks → AreKept block len blocks m chunks
 fewer block len blocks n m chunks h w = record { total = w.total; few = omega (arith, w.few); each = w.each }
@@ -99,6 +101,7 @@ sparse-well file header chunks h w =
       some = f.some;
       short = f.short;
       chunks = fewer header.block (length file) header.blocks header.chunks 1000000 chunks f.few (walked-kept header.chunks header.block header.blocks 28 file chunks (header-long (length file) file header h) w);
+      long = refl;
     }
 
 raw-well : (file : List ℕ) → 0 < length file → round_up (length file) < 2 ^ 44 → IsWell (raw_kept file) (source_of (raw_kept file) file)
@@ -113,6 +116,7 @@ raw-well file some h = record {
     few = omega arith;
     each = All-cons (IsChunk 4096 (length (source_of (raw_kept file) file))) _ [] (record { lies = omega (arith, padded-length file); four = tt }) (All-nil (IsChunk 4096 (length (source_of (raw_kept file) file))));
   };
+  long = omega (arith, padded-length file);
 }
 
 pub same-kept : (a b : Kept) → ◌≡◌ {A = Result Kept SparseError} (Ok a) (Ok b) → a ≡ b

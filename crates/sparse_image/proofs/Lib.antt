@@ -11,3 +11,10 @@ pub mod PutLemmas
 pub mod PieceLemmas
 pub mod ReachLemmas
 pub mod WholeLemmas
+pub mod RestLemmas
+pub mod GrowLemmas
+pub mod CuttingLemmas
+pub mod SplitLemmas
+pub mod PaddedLemmas
+pub mod WriteLemmas
+pub mod PartLemmas

@@ -34,12 +34,12 @@ cells-long block source f (chunk ∷ chunks) w =
     ∙ omega (arith, own, others, spent (sum_by (λ (c : Chunk). c.blocks) (chunk ∷ chunks)) chunk.blocks (sum_by (λ (c : Chunk). c.blocks) chunks) block (sum_by-cons (λ (c : Chunk). c.blocks) chunk chunks))
 
 -- parts of chunks are chunks
-part-lies : (len n m block : ℕ) (content : Content) → n ≤ m → LiesIn len (m * block) content → LiesIn len (n * block) content
+pub part-lies : (len n m block : ℕ) (content : Content) → n ≤ m → LiesIn len (m * block) content → LiesIn len (n * block) content
 part-lies len n m block (Raw place) h l = let k = mul-le-mul_right block h in omega arith
 part-lies len n m block (Fill pattern) h l = tt
 part-lies len n m block DontCare h l = tt
 
-behind-lies : (len n m block : ℕ) (content : Content) → n ≤ m → LiesIn len (m * block) content → LiesIn len ((m - n) * block) (content_behind (n * block) content)
+pub behind-lies : (len n m block : ℕ) (content : Content) → n ≤ m → LiesIn len (m * block) content → LiesIn len ((m - n) * block) (content_behind (n * block) content)
 behind-lies len n m block (Raw place) h l = omega (arith, spent m n (m - n) block (omega arith))
 behind-lies len n m block (Fill pattern) h l = tt
 behind-lies len n m block DontCare h l = tt
@@ -49,7 +49,7 @@ behind-four n (Raw place) f = tt
 behind-four n (Fill pattern) f = f
 behind-four n DontCare f = tt
 
-first-each : (block len : ℕ) (chunks : List Chunk) (n : ℕ) → All (IsChunk block len) chunks → All (IsChunk block len) (first_blocks n chunks)
+pub first-each : (block len : ℕ) (chunks : List Chunk) (n : ℕ) → All (IsChunk block len) chunks → All (IsChunk block len) (first_blocks n chunks)
 first-each block len [] n w = All-nil (IsChunk block len)
 first-each block len (chunk ∷ chunks) n w =
     let own = All-head (IsChunk block len) chunk chunks w in
@@ -61,7 +61,7 @@ first-each block len (chunk ∷ chunks) n w =
     (eqb_tells n 0)))
     (leb_tells chunk.blocks n)
 
-behind-each : (block len : ℕ) (chunks : List Chunk) (n : ℕ) → All (IsChunk block len) chunks → All (IsChunk block len) (behind_blocks block n chunks)
+pub behind-each : (block len : ℕ) (chunks : List Chunk) (n : ℕ) → All (IsChunk block len) chunks → All (IsChunk block len) (behind_blocks block n chunks)
 behind-each block len [] n w = All-nil (IsChunk block len)
 behind-each block len (chunk ∷ chunks) n w =
     let own = All-head (IsChunk block len) chunk chunks w in
@@ -82,7 +82,7 @@ first-total (chunk ∷ chunks) n =
     (λ k. rw k.0 (⊎_elim (λ j. rw j.0 (omega (arith, j.1))) (λ j. rw j.0 (omega (arith, s, k.1))) (eqb_tells n 0)))
     (leb_tells chunk.blocks n)
 
-behind-total : (block : ℕ) (chunks : List Chunk) (n : ℕ) → sum_by (λ (c : Chunk). c.blocks) (behind_blocks block n chunks) ≡ sum_by (λ (c : Chunk). c.blocks) chunks - n
+pub behind-total : (block : ℕ) (chunks : List Chunk) (n : ℕ) → sum_by (λ (c : Chunk). c.blocks) (behind_blocks block n chunks) ≡ sum_by (λ (c : Chunk). c.blocks) chunks - n
 behind-total block [] n = omega arith
 behind-total block (chunk ∷ chunks) n =
     let s = sum_by-cons (λ (c : Chunk). c.blocks) chunk chunks in
@@ -102,7 +102,7 @@ hole-total : (n : ℕ) → sum_by (λ (c : Chunk). c.blocks) (hole n) ≡ n
 hole-total n = ⊎_elim (λ k. rw k.0 (sym k.1)) (λ k. rw k.0 (omega arith)) (eqb_tells n 0)
 
 -- what a piece's chunks are
-piece-each : (kept : Kept) (len first last : ℕ) → All (IsChunk kept.block len) kept.chunks → All (IsChunk kept.block len) (piece_chunks kept first last)
+pub piece-each : (kept : Kept) (len first last : ℕ) → All (IsChunk kept.block len) kept.chunks → All (IsChunk kept.block len) (piece_chunks kept first last)
 piece-each kept len first last w =
     let rest = behind_blocks kept.block first kept.chunks in
     All-append (IsChunk kept.block len) (hole first) (first_blocks (last - first) rest ++ hole (kept.blocks - last)) (hole-each kept.block len first)

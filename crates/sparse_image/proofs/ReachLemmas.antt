@@ -114,11 +114,11 @@ reach-len kept max first done chunk more part place n s e =
       omega (arith, piece-count kept first place, ap (λ (xs : List Chunk). length xs) f, length-append done front),
     )
 
-cut-front : (n : ℕ) (chunk : Chunk) (more : List Chunk) → 0 < n → n < chunk.blocks → first_blocks n (chunk ∷ more) ≡ record { blocks = n; content = chunk.content } ∷ []
+pub cut-front : (n : ℕ) (chunk : Chunk) (more : List Chunk) → 0 < n → n < chunk.blocks → first_blocks n (chunk ∷ more) ≡ record { blocks = n; content = chunk.content } ∷ []
 cut-front n chunk more h l =
     ⊎_elim (λ k. absurd (omega (arith, k.1))) (λ k. ⊎_elim (λ j. absurd (omega (arith, j.1))) (λ j. rw (k.0, j.0) refl) (eqb_tells n 0)) (leb_tells chunk.blocks n)
 
-whole-front : (n : ℕ) (chunk : Chunk) (more : List Chunk) → chunk.blocks ≤ n → first_blocks n (chunk ∷ more) ≡ chunk ∷ first_blocks (n - chunk.blocks) more
+pub whole-front : (n : ℕ) (chunk : Chunk) (more : List Chunk) → chunk.blocks ≤ n → first_blocks n (chunk ∷ more) ≡ chunk ∷ first_blocks (n - chunk.blocks) more
 whole-front n chunk more h = ⊎_elim (λ k. rw k.0 refl) (λ k. absurd (omega (arith, k.1))) (leb_tells chunk.blocks n)
 
 -- a hole behind a chunk is behind a later place too, or a further chunk is before that place

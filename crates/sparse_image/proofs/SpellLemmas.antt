@@ -47,7 +47,7 @@ data-size-of block blocks DontCare = refl
 data-size : (block : ℕ) (chunk : Chunk) → data_size (kind_of chunk.content) chunk.blocks block ≡ Some (content_len (chunk.blocks * block) chunk.content)
 data-size block chunk = data-size-of block chunk.blocks chunk.content
 
-data-length : (n : ℕ) (source : List ℕ) (content : Content) → LiesIn (length source) n content → HasFour content → length (data_bytes n source content) ≡ content_len n content
+pub data-length : (n : ℕ) (source : List ℕ) (content : Content) → LiesIn (length source) n content → HasFour content → length (data_bytes n source content) ≡ content_len n content
 data-length n source (Raw place) l f = length-take-le n (drop place source) (simp length-drop (omega arith))
 data-length n source (Fill pattern) l f = f
 data-length n source DontCare l f = refl

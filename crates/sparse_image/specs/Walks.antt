@@ -207,6 +207,8 @@ pub record IsKept (kept : Kept) : Type 0 where
   pub some : 0 < kept.blocks
   pub short : kept.blocks * kept.block ≤ 2 ^ 44
   pub few : length kept.chunks ≤ 1000000
+  pub source : kept.source_len < 2 ^ 64
+  pub count : kept.blocks < 2 ^ 32
   pub well : AreWell kept.block (source_room kept) kept.blocks kept.chunks
 
 -- chunks before those of a walk

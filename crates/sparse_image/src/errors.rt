@@ -31,6 +31,15 @@ pub struct SparseError {
     pub at: u64,
 }
 
+/// Why a piece wasn't written.
+#[derive(Debug, Drop)]
+pub enum PieceFault {
+    /// The source couldn't be read.
+    Read,
+    /// The out couldn't take the bytes.
+    Out,
+}
+
 impl SparseError {
     /// A flaw of this kind at this place.
     pub(crate) fn new(kind: SparseKind, at: u64) -> SparseError

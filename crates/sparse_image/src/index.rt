@@ -2,11 +2,15 @@ ghost use Rattle.std.specs.Prelude.{◌≡◌, ℕ, ◌+◌, ◌-◌, ◌*◌, �
 ghost use Rattle.std.specs.Result.{IsErrOf};
 ghost use Rattle.fb_frame.specs.Causes.{Rose, HasCause};
 ghost use Rattle.dev_model.specs.Images.{image, is_sparse};
+ghost use Rattle.sparse_image.specs.Pieces.{whole_len};
+ghost use Rattle.sparse_image.specs.Cuts.{Cutting, Part, AreCut, AreSplit};
 ghost use Rattle.sparse_image.specs.Walks.{checked, sparse_checked, raw_checked, kept_cells, front_of, header_of, chunk_len, kept, walked, LiesIn, IsFine, AreWell};
 
 use crate::chunk::{Chunk, Content};
 use crate::errors::{SparseError, SparseKind};
+use crate::pieces::Pieces;
 use crate::reads::read_exact;
+use crate::rest::Rest;
 use crate::source::{Bytes, BytesFault};
 use crate::walk::{HEADER, Header, RAW_LIMIT, check_end, front_chunk, is_sparse, padding};
 use std::alloc::Global;
@@ -184,6 +188,35 @@ impl Index {
         ensures { result ≡ self.now.source_len }
     {
         self.source_len
+    }
+
+    /// How many blocks the image has.
+    pub(crate) fn blocks(&self) -> u32
+        ensures { result ≡ self.now.blocks }
+    {
+        self.blocks
+    }
+
+    /// How many bytes the file has where it is sent whole: a raw one with its padding.
+    pub(crate) fn whole_len(&self) -> u64
+        ensures { result ≡ whole_len self.now }
+    {
+        if self.sparse {
+            self.source_len
+        } else {
+            self.len()
+        }
+    }
+
+    /// The pieces of the file, each of at most `max` bytes and 1,000,000 chunks. Put over one after
+    /// another, each as the file that it is, they are the whole image put over.
+    pub fn pieces(&self, max: u32) -> Pieces<'_>
+        requires { 131072 ≤ max }
+        ensures begin { result ≡ record { kept = self.now; max = max; first = 0 } }
+        ensures split { (file : List ℕ) (parts : List Part) → checked file ≡ Ok self.now → AreCut result parts → AreSplit self.now file max parts }
+    {
+        let rest = Rest::new(self.block, self.chunks.as_slice());
+        Pieces::new(self, max, rest)
     }
 }
 

@@ -8,9 +8,15 @@ pub mod chunk;
 pub mod errors;
 pub mod index;
 pub mod out;
+pub mod piece;
+pub mod pieces;
+mod puts;
+mod reach;
 mod reads;
+mod rest;
 pub mod runs;
 pub mod source;
+mod spell;
 mod walk;
 pub mod writes;
 

@@ -1,12 +1,15 @@
-ghost use Rattle.std.specs.Prelude.{None};
+ghost use Rattle.std.specs.Prelude.{◌≡◌, ◌^◌, ◌<◌, length, None, Ok};
+ghost use Rattle.sparse_image.specs.Walks.{checked};
 
 use crate::errors::{SparseError, SparseKind};
 use crate::index::{CheckError, check};
 use crate::out::{MemoryOut, Out};
+use crate::pieces::Pieces;
 use crate::runs::Run;
 use crate::source::{Bytes, BytesFault, MemoryBytes};
 use crate::writes::runs;
 use std::alloc::{AllocError, Global};
+use std::process::Abort;
 use std::test::Fail;
 
 /// Four blocks of 4,096 bytes: one of 0x33, two of a fill, one that is left as it was.
@@ -183,5 +186,162 @@ fn puts_into_memory(rt: HostRuntime) -> Result<(), Fail> {
     let mut out = MemoryOut::new(rt.alloc(), 3).map_err(|_| "no memory")?;
     out.put(b"ab").map_err(|_| "no room")?;
     assert_eq!(rt; out.bytes(), b"ab".as_slice());
+    Ok(())
+}
+
+/// A sparse file of chunks, each a type, blocks, and how many bytes of data, which are all 0x33.
+fn sparse_file(
+    alloc: Global,
+    block: u32,
+    blocks: u32,
+    chunks: &[(u16, u32, u32)],
+) -> Result<Vec<u8>, AllocError>
+    requires { length chunks.now < 2 ^ 32 }
+{
+    let mut file = Vec::new(alloc);
+    file.extend_from_slice(b"\x3a\xff\x26\xed\x01\0\0\0\x1c\0\x0c\0")?;
+    file.extend_from_slice(&block.to_le_bytes())?;
+    file.extend_from_slice(&blocks.to_le_bytes())?;
+    file.extend_from_slice(&(chunks.len() as u32).to_le_bytes())?;
+    file.extend_from_slice(&[0; 4])?;
+    for (kind, blocks, data) in chunks {
+        file.extend_from_slice(&kind.to_le_bytes())?;
+        file.extend_from_slice(&[0; 2])?;
+        file.extend_from_slice(&blocks.to_le_bytes())?;
+        file.extend_from_slice(&data.wrapping_add(12).to_le_bytes())?;
+        file.resize(file.len().saturating_add(*data as usize), 0x33)?;
+    }
+    Ok(file)
+}
+
+/// The next piece of a file, written.
+fn next_piece(
+    alloc: Global,
+    file: &[u8],
+    pieces: &mut Pieces<'_>,
+) -> Result<Option<MemoryOut>, Fail>
+    requires len { length file.now ≡ pieces.old.kept.source_len }
+    requires told { checked file.now ≡ Ok pieces.old.kept }
+    ensures { pieces.new.kept ≡ pieces.old.kept }
+{
+    let Some(piece) = pieces.next() else {
+        return Ok(None);
+    };
+    let mut source = MemoryBytes::new(file);
+    let mut out = MemoryOut::new(alloc, piece.size() as usize).map_err(|_| "no memory")?;
+    piece.write(&mut source, &mut out).map_err(|_| "a fault")?;
+    Ok(Some(out))
+}
+
+/// Tries that a file's pieces have these sizes, and are images as long as the whole.
+fn check_sizes(
+    rt: &impl Abort,
+    alloc: Global,
+    file: &[u8],
+    max: u32,
+    sizes: &[u32],
+) -> Result<(), Fail> {
+    assert!(rt; max >= 131_072);
+    let index = check(alloc, &mut MemoryBytes::new(file))?;
+    let mut pieces = index.pieces(max);
+    for size in sizes {
+        let Some(out) = next_piece(alloc, file, &mut pieces)? else {
+            return Err("a piece is missing".into());
+        };
+        assert_eq!(rt; out.bytes().len(), *size as usize, "at most {max}");
+        let piece = check(alloc, &mut MemoryBytes::new(out.bytes()))?;
+        assert_eq!(rt; piece.len(), index.len());
+    }
+    assert!(rt; pieces.next().is_none());
+    Ok(())
+}
+
+#[test]
+fn splits_raw_files(rt: HostRuntime) -> Result<(), Fail> {
+    let rows = [
+        (163_840, &[127_028, 36_916][..]),
+        (131_072, &[131_072]),
+        (131_073, &[127_028, 8244]),
+        (4097, &[8192]),
+    ];
+    for (len, sizes) in rows {
+        let mut file = Vec::new(rt.alloc());
+        file.resize(len, 0x11)?;
+        check_sizes(&rt, rt.alloc(), file.as_slice(), 131_072, sizes)?;
+    }
+    Ok(())
+}
+
+#[test]
+fn splits_sparse_files(rt: HostRuntime) -> Result<(), Fail> {
+    let row = sparse_row(rt.alloc())?;
+    check_sizes(&rt, rt.alloc(), row.as_slice(), 131_072, &[4164])?;
+    // a raw chunk that straddles a piece's end
+    let chunks = [(0xCAC2, 2, 4), (0xCAC1, 40, 163_840), (0xCAC3, 3, 0)];
+    let file = sparse_file(rt.alloc(), 4096, 45, &chunks)?;
+    check_sizes(
+        &rt,
+        rt.alloc(),
+        file.as_slice(),
+        131_072,
+        &[127_044, 36_928],
+    )?;
+    // chunks of no blocks
+    let chunks = [(0xCAC1, 0, 0), (0xCAC1, 40, 163_840), (0xCAC2, 0, 4)];
+    let file = sparse_file(rt.alloc(), 4096, 40, &chunks)?;
+    check_sizes(
+        &rt,
+        rt.alloc(),
+        file.as_slice(),
+        131_072,
+        &[127_028, 36_916],
+    )?;
+    // a fill, or skips, that begin the next piece
+    let chunks = [
+        (0xCAC1, 256, 131_072),
+        (0xCAC2, 1, 4),
+        (0xCAC3, 2, 0),
+        (0xCAC2, 3, 4),
+    ];
+    let file = sparse_file(rt.alloc(), 512, 262, &chunks)?;
+    check_sizes(&rt, rt.alloc(), file.as_slice(), 131_139, &[131_124, 84])?;
+    check_sizes(&rt, rt.alloc(), file.as_slice(), 131_151, &[131_140, 68])?;
+    check_sizes(&rt, rt.alloc(), file.as_slice(), 131_156, &[131_156])?;
+    // the largest blocks
+    let file = sparse_file(rt.alloc(), 65_536, 4, &[(0xCAC1, 4, 262_144)])?;
+    check_sizes(
+        &rt,
+        rt.alloc(),
+        file.as_slice(),
+        131_072,
+        &[65_588, 65_600, 65_600, 65_588],
+    )
+}
+
+#[test]
+fn writes_pieces(rt: HostRuntime) -> Result<(), Fail> {
+    let chunks = [
+        (0xCAC1, 256, 131_072),
+        (0xCAC2, 1, 4),
+        (0xCAC3, 2, 0),
+        (0xCAC2, 3, 4),
+    ];
+    let file = sparse_file(rt.alloc(), 512, 262, &chunks)?;
+    let index = check(rt.alloc(), &mut MemoryBytes::new(file.as_slice()))?;
+    let mut pieces = index.pieces(131_151);
+    let Some(first) = next_piece(rt.alloc(), file.as_slice(), &mut pieces)? else {
+        return Err("no first piece".into());
+    };
+    assert!(rt; first.bytes().len() == 131_140);
+    assert_eq!(rt;
+        &first.bytes()[131_112..],
+        b"\xc2\xca\0\0\x01\0\0\0\x10\0\0\x003333\xc3\xca\0\0\x05\0\0\0\x0c\0\0\0".as_slice()
+    );
+    let Some(second) = next_piece(rt.alloc(), file.as_slice(), &mut pieces)? else {
+        return Err("no second piece".into());
+    };
+    let want =
+        b"\x3a\xff\x26\xed\x01\0\0\0\x1c\0\x0c\0\0\x02\0\0\x06\x01\0\0\x03\0\0\0\0\0\0\0\xc3\xca\0\0\x01\x01\0\0\x0c\0\0\0\xc3\xca\0\0\x02\0\0\0\x0c\0\0\0\xc2\xca\0\0\x03\0\0\0\x10\0\0\x003333";
+    assert_eq!(rt; second.bytes(), want.as_slice());
     Ok(())
 }

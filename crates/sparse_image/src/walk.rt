@@ -16,11 +16,11 @@ pub const HEAD: usize = 12;
 /// The longest raw file: its padded length stays below 2^44 bytes.
 pub const RAW_LIMIT: u64 = (1 << 44) - 4096;
 
-const RAW: u16 = 0xCAC1;
+pub const RAW: u16 = 0xCAC1;
 
-const FILL: u16 = 0xCAC2;
+pub const FILL: u16 = 0xCAC2;
 
-const DONT_CARE: u16 = 0xCAC3;
+pub const DONT_CARE: u16 = 0xCAC3;
 
 const CRC32: u16 = 0xCAC4;
 
