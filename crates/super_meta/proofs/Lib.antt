@@ -1,0 +1,4 @@
+pub mod PutLemmas
+pub mod FieldLemmas
+pub mod SealLemmas
+pub mod GeometryLemmas

@@ -1,0 +1,14 @@
+-- What is wrong with bytes, as a table of tests in the order in which they are tried.
+use Rattle.std.specs.Prelude.{Bool, true, false, List, [], ◌∷◌, Option, Some, None, Result, Ok, Err}
+use Rattle.super_meta.specs.declared.errors.MetaError.{MetaError}
+
+-- the error beside the first test that passes
+abbrev pub first_flaw : List (Bool × MetaError) → Option MetaError
+first_flaw [] = None
+first_flaw ((true, flaw) ∷ rows) = Some flaw
+first_flaw ((false, flaw) ∷ rows) = first_flaw rows
+
+-- the value, unless something is wrong
+abbrev pub or_flaw : {X : Type 0} → Option MetaError → X → Result X MetaError
+or_flaw None value = Ok value
+or_flaw (Some flaw) value = Err flaw

@@ -1,0 +1,5 @@
+pub mod Numbers
+pub mod Sealed
+pub mod Flaws
+pub mod GeometryText
+pub mod Laws

@@ -1,0 +1,17 @@
+//! Super metadata (liblp metadata_format.h, versions 10.0 to 10.2): the geometry of super and the
+//! table of its logical partitions, read exactly and written in their one spelling.
+#![tactic(auto)]
+
+ghost use Rattle.super_meta.specs.Laws.{GeometryRead, OneGeometry};
+
+pub mod errors;
+pub mod geometry;
+mod numbers;
+mod put;
+mod sealed;
+
+/// The laws of the definitions.
+pub fn laws()
+    ensures geometry_read { GeometryRead }
+    ensures one_geometry { OneGeometry }
+{}
