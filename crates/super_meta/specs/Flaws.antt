@@ -12,3 +12,9 @@ first_flaw ((false, flaw) ∷ rows) = first_flaw rows
 abbrev pub or_flaw : {X : Type 0} → Option MetaError → X → Result X MetaError
 or_flaw None value = Ok value
 or_flaw (Some flaw) value = Err flaw
+
+-- the first of two errors
+infixl 10 ◌or_else◌
+abbrev pub ◌or_else◌ : Option MetaError → Option MetaError → Option MetaError
+None or_else next = next
+(Some flaw) or_else next = Some flaw

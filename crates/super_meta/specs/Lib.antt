@@ -2,4 +2,5 @@ pub mod Numbers
 pub mod Sealed
 pub mod Flaws
 pub mod GeometryText
+pub mod HeaderText
 pub mod Laws

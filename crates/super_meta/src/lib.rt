@@ -6,6 +6,7 @@ ghost use Rattle.super_meta.specs.Laws.{GeometryRead, OneGeometry};
 
 pub mod errors;
 pub mod geometry;
+mod header;
 mod numbers;
 mod put;
 mod sealed;
