@@ -3,3 +3,4 @@ pub mod FieldLemmas
 pub mod SealLemmas
 pub mod GeometryLemmas
 pub mod HeaderLemmas
+pub mod RowLemmas

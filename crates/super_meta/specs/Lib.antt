@@ -3,4 +3,5 @@ pub mod Sealed
 pub mod Flaws
 pub mod GeometryText
 pub mod HeaderText
+pub mod Entries
 pub mod Laws

@@ -4,12 +4,14 @@
 
 ghost use Rattle.super_meta.specs.Laws.{GeometryRead, OneGeometry};
 
+mod entries;
 pub mod errors;
 pub mod geometry;
 mod header;
 mod numbers;
 mod put;
 mod sealed;
+pub mod table;
 
 /// The laws of the definitions.
 pub fn laws()
