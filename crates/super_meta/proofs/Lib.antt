@@ -4,3 +4,4 @@ pub mod SealLemmas
 pub mod GeometryLemmas
 pub mod HeaderLemmas
 pub mod RowLemmas
+pub mod CheckLemmas

@@ -4,4 +4,5 @@ pub mod Flaws
 pub mod GeometryText
 pub mod HeaderText
 pub mod Entries
+pub mod Contents
 pub mod Laws

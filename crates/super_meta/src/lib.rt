@@ -4,6 +4,7 @@
 
 ghost use Rattle.super_meta.specs.Laws.{GeometryRead, OneGeometry};
 
+mod checks;
 mod entries;
 pub mod errors;
 pub mod geometry;

@@ -1,0 +1,144 @@
+ghost use Rattle.std.specs.Prelude.{◌≡◌, ℕ, List, ◌+◌, ◌*◌, ◌<◌, ◌≤◌, length, map, nat_lt, ◌==◌, bytes_eq};
+ghost use Rattle.std.specs.List.{list_all, list_any};
+ghost use Rattle.super_meta.specs.Contents.{are_distinct, take_in_turn, lies_in, shares, are_apart, are_attributes};
+
+use crate::table::{BlockDevice, Extent, Group, Partition};
+use fb_frame::name::Name;
+
+/// An entry of a table that has a name.
+pub trait Named {
+    /// Its name.
+    ghost named: { Self → List ℕ };
+
+    /// Its name.
+    fn name(&self) -> &Name
+        ensures { result.now ≡ named self.now };
+}
+
+impl Named for Partition {
+    ghost named = { λ p. p.name };
+
+    fn name(&self) -> &Name {
+        &self.name
+    }
+}
+
+impl Named for Group {
+    ghost named = { λ g. g.name };
+
+    fn name(&self) -> &Name {
+        &self.name
+    }
+}
+
+/// Whether one of the entries has the name.
+fn is_taken<T: Named>(name: &Name, entries: &[T]) -> bool
+    ensures { result ≡ list_any (λ x. bytes_eq (T.named x) name.now) entries.now }
+{
+    entries.iter().any(|entry| entry.name() == name)
+}
+
+/// Whether no two entries have the same name.
+pub fn are_named_apart<T: Named>(entries: &[T]) -> bool
+    ensures { result ≡ are_distinct (map T.named entries.now) }
+{
+    for (i, entry) in entries.iter().enumerate() {
+        if is_taken(entry.name(), &entries[i + 1..]) {
+            return false;
+        }
+    }
+    true
+}
+
+impl Extent {
+    /// Whether the extent has sectors, and all of them lie in the device's part for extents.
+    fn lies_in(&self, device: &BlockDevice) -> bool
+        ensures { result ≡ lies_in device.now self.now }
+    {
+        let end = device.size / 512;
+        self.sectors > 0
+            && device.first_sector <= self.target
+            && self.target <= end
+            && self.sectors <= end - self.target
+    }
+
+    /// Whether two extents share a sector.
+    fn shares(&self, other: &Extent) -> bool
+        ensures { result ≡ shares self.now other.now }
+    {
+        if self.target <= other.target {
+            other.target - self.target < self.sectors && other.sectors > 0
+        } else {
+            self.target - other.target < other.sectors && self.sectors > 0
+        }
+    }
+}
+
+/// Whether the extent shares a sector with one of the others.
+fn shares_any(extent: &Extent, others: &[Extent]) -> bool
+    ensures { result ≡ list_any (shares extent.now) others.now }
+{
+    others.iter().any(|other| extent.shares(other))
+}
+
+/// Whether no two extents share a sector.
+#[tactic(auto, using(crate::proofs::CheckLemmas::apart_steps))]
+pub fn are_apart(extents: &[Extent]) -> bool
+    ensures { result ≡ are_apart extents.now }
+{
+    for (i, extent) in extents.iter().enumerate() {
+        if shares_any(extent, &extents[i + 1..]) {
+            return false;
+        }
+    }
+    true
+}
+
+/// Whether each extent lies in the device's part for extents.
+pub fn lie_in(extents: &[Extent], device: &BlockDevice) -> bool
+    ensures { result ≡ list_all (lies_in device.now) extents.now }
+{
+    extents.iter().all(|extent| extent.lies_in(device))
+}
+
+/// Whether the partitions take so many extents in turn.
+#[tactic(auto, using(crate::proofs::CheckLemmas::turn_steps))]
+pub fn take_in_turn(partitions: &[Partition], extents: u32) -> bool
+    ensures { result ≡ take_in_turn extents 0 partitions.now }
+{
+    let mut at = 0;
+    for partition in partitions {
+        if u64::from(partition.first) != at {
+            return false;
+        }
+        at += u64::from(partition.count);
+    }
+    at == u64::from(extents)
+}
+
+/// Whether the group of each partition is one of so many.
+pub fn are_grouped(partitions: &[Partition], groups: u32) -> bool
+    ensures { result ≡ list_all (λ p. nat_lt p.group groups) partitions.now }
+{
+    partitions.iter().all(|partition| partition.group < groups)
+}
+
+/// Whether the attributes are known to a minor version.
+fn are_attributes(minor: u16, bits: u32) -> bool
+    ensures { result ≡ are_attributes minor bits }
+{
+    if minor == 0 {
+        bits < 2
+    } else {
+        bits < 16 && bits / 2 % 2 == 0
+    }
+}
+
+/// Whether the attributes of each partition are known to a minor version.
+pub fn are_known(partitions: &[Partition], minor: u16) -> bool
+    ensures { result ≡ list_all (λ p. are_attributes minor p.attributes) partitions.now }
+{
+    partitions
+        .iter()
+        .all(|partition| are_attributes(minor, partition.attributes))
+}
