@@ -5,3 +5,4 @@ pub mod GeometryLemmas
 pub mod HeaderLemmas
 pub mod RowLemmas
 pub mod CheckLemmas
+pub mod ReadLemmas

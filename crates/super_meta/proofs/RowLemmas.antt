@@ -45,11 +45,11 @@ map-more f size i bytes = ap (map f) (rows-more size i bytes) ∙ map-append f (
 pub ruleset row_steps = (rows-none, map-more)
 
 -- an entry that was read, by its name
-some-if : {X : Type 0} (b : Bool) (v p : X) → Some p ≡ (if b then Some v else None) → (b ≡ true) × (p ≡ v)
+pub some-if : {X : Type 0} (b : Bool) (v p : X) → Some p ≡ (if b then Some v else None) → (b ≡ true) × (p ≡ v)
 some-if true v p e = (refl, cc)
 some-if false v p e = absurd cc
 
-none-if : {X : Type 0} (b : Bool) (v : X) → None ≡ (if b then Some v else None) → b ≡ false
+pub none-if : {X : Type 0} (b : Bool) (v : X) → None ≡ (if b then Some v else None) → b ≡ false
 none-if true v e = absurd cc
 none-if false v e = refl
 

@@ -6,3 +6,4 @@ pub mod HeaderText
 pub mod Entries
 pub mod Contents
 pub mod Laws
+pub mod TableText

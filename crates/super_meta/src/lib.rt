@@ -11,6 +11,7 @@ pub mod geometry;
 mod header;
 mod numbers;
 mod put;
+mod reading;
 mod sealed;
 pub mod table;
 
