@@ -22,11 +22,7 @@ named-if : (b : Bool) → None ≡ (if b then None else Some BadName) → b ≡ 
 named-if true e = refl
 named-if false e = absurd cc
 
--- the slice of the block device's entry
-device-slice : (h : Header) (tables : List ℕ) (d : ℕ) → d ≡ lists_size h → take (d + 64 - d) (drop d tables) ≡ device_row h tables
-device-slice h tables d e = let n : d + 64 - d ≡ 64 = omega arith in ap (λ k. take k (drop d tables)) n ∙ ap (λ k. take 64 (drop k tables)) e
-
--- each list has its names, by the slices that were read
+-- each list has its names
 names-by : (h : Header) (tables groups : List ℕ) (own : Bool) → groups ≡ drop (52 * h.partitions + 24 * h.extents) tables →
     None ≡ (if list_all is_named (rows 52 h.partitions tables) then None else Some BadName) →
     None ≡ (if list_all is_named (rows 48 h.groups groups) then None else Some BadName) →
@@ -37,40 +33,33 @@ names-by h tables groups own e p g d =
     let gs : list_all is_named (group_rows h tables) ≡ true = ap (λ t. list_all is_named (rows 48 h.groups t)) (sym e) ∙ named-if (list_all is_named (rows 48 h.groups groups)) g in
     rw (ps, gs) d
 
-pub all-named : (h : Header) (tables : List ℕ) (at d : ℕ) (device : BlockDevice) → at ≡ 52 * h.partitions + 24 * h.extents → d ≡ lists_size h →
+pub all-named : (h : Header) (tables groups row : List ℕ) (device : BlockDevice) → groups ≡ drop (52 * h.partitions + 24 * h.extents) tables → row ≡ device_row h tables →
     None ≡ (if list_all is_named (rows 52 h.partitions tables) then None else Some BadName) →
-    None ≡ (if list_all is_named (rows 48 h.groups (take (length tables - at) (drop at tables))) then None else Some BadName) →
-    Some device ≡ (if is_name_field (take 36 (drop 24 (take (d + 64 - d) (drop d tables)))) then Some (device_of (take (d + 64 - d) (drop d tables))) else None) →
+    None ≡ (if list_all is_named (rows 48 h.groups groups) then None else Some BadName) →
+    Some device ≡ (if is_name_field (take 36 (drop 24 row)) then Some (device_of row) else None) →
     None ≡ (if names_hold h tables then None else Some BadName)
-all-named h tables at d device a e p g o =
-    let row = device-slice h tables d e in
-    let own : is_name_field (take 36 (drop 24 (device_row h tables))) ≡ true = ap (λ r. is_name_field (take 36 (drop 24 r))) (sym row) ∙ (some-if (is_name_field (take 36 (drop 24 (take (d + 64 - d) (drop d tables))))) _ device o).0 in
-    let all = names-by h tables (take (length tables - at) (drop at tables)) true (take_rest tables at ∙ ap (λ k. drop k tables) a) p g own in
-    rw all refl
+all-named h tables groups row device e r p g o =
+    let own = ap (λ t. is_name_field (take 36 (drop 24 t))) (sym r) ∙ (some-if (is_name_field (take 36 (drop 24 row))) (device_of row) device o).0 in
+    rw (names-by h tables groups true e p g own) refl
 
-pub device-unnamed : (h : Header) (tables : List ℕ) (at d : ℕ) (v : BlockDevice) → at ≡ 52 * h.partitions + 24 * h.extents → d ≡ lists_size h →
+pub device-unnamed : (h : Header) (tables groups row : List ℕ) → groups ≡ drop (52 * h.partitions + 24 * h.extents) tables → row ≡ device_row h tables →
     None ≡ (if list_all is_named (rows 52 h.partitions tables) then None else Some BadName) →
-    None ≡ (if list_all is_named (rows 48 h.groups (take (length tables - at) (drop at tables))) then None else Some BadName) →
-    None ≡ (if is_name_field (take 36 (drop 24 (take (d + 64 - d) (drop d tables)))) then Some v else None) →
+    None ≡ (if list_all is_named (rows 48 h.groups groups) then None else Some BadName) →
+    None ≡ (if is_name_field (take 36 (drop 24 row)) then Some (device_of row) else None) →
     Some BadName ≡ (if names_hold h tables then None else Some BadName)
-device-unnamed h tables at d v a e p g o =
-    let row = device-slice h tables d e in
-    let own : is_name_field (take 36 (drop 24 (device_row h tables))) ≡ false = ap (λ r. is_name_field (take 36 (drop 24 r))) (sym row) ∙ none-if (is_name_field (take 36 (drop 24 (take (d + 64 - d) (drop d tables))))) v o in
-    let all = names-by h tables (take (length tables - at) (drop at tables)) false (take_rest tables at ∙ ap (λ k. drop k tables) a) p g own in
-    rw all refl
+device-unnamed h tables groups row e r p g o =
+    let own = ap (λ t. is_name_field (take 36 (drop 24 t))) (sym r) ∙ none-if (is_name_field (take 36 (drop 24 row))) (device_of row) o in
+    rw (names-by h tables groups false e p g own) refl
 
 -- what was read of each list is what the table says
-pub content-by : (h : Header) (tables : List ℕ) (at below d : ℕ) (partitions : List Partition) (extents : List Extent) (groups : List Group) (device : BlockDevice) →
-    at ≡ 52 * h.partitions + 24 * h.extents → below ≡ 52 * h.partitions → d ≡ lists_size h →
-    partitions ≡ map partition_of (rows 52 h.partitions tables) →
-    extents ≡ map extent_of (rows 24 h.extents (take (length tables - below) (drop below tables))) →
-    groups ≡ map group_of (rows 48 h.groups (take (length tables - at) (drop at tables))) →
-    Some device ≡ (if is_name_field (take 36 (drop 24 (take (d + 64 - d) (drop d tables)))) then Some (device_of (take (d + 64 - d) (drop d tables))) else None) →
+pub content-by : (h : Header) (tables below behind row : List ℕ) (partitions : List Partition) (extents : List Extent) (groups : List Group) (device : BlockDevice) →
+    below ≡ drop (52 * h.partitions) tables → behind ≡ drop (52 * h.partitions + 24 * h.extents) tables → row ≡ device_row h tables →
+    partitions ≡ map partition_of (rows 52 h.partitions tables) → extents ≡ map extent_of (rows 24 h.extents below) → groups ≡ map group_of (rows 48 h.groups behind) →
+    Some device ≡ (if is_name_field (take 36 (drop 24 row)) then Some (device_of row) else None) →
     let c : Content = record { minor = h.minor; flags = h.flags; partitions = partitions; extents = extents; groups = groups; device = device } in c ≡ content_in h tables
 unfolding content_in
-content-by h tables at below d partitions extents groups device a b e p x g o =
-    let row = device-slice h tables d e in
-    let own = (some-if (is_name_field (take 36 (drop 24 (take (d + 64 - d) (drop d tables))))) (device_of (take (d + 64 - d) (drop d tables))) device o).1 ∙ ap device_of row in
-    let xs : extents ≡ map extent_of (extent_rows h tables) = x ∙ ap (λ t. map extent_of (rows 24 h.extents t)) (take_rest tables below ∙ ap (λ k. drop k tables) b) in
-    let gs : groups ≡ map group_of (group_rows h tables) = g ∙ ap (λ t. map group_of (rows 48 h.groups t)) (take_rest tables at ∙ ap (λ k. drop k tables) a) in
+content-by h tables below behind row partitions extents groups device b e r p x g o =
+    let own = (some-if (is_name_field (take 36 (drop 24 row))) (device_of row) device o).1 ∙ ap device_of r in
+    let xs : extents ≡ map extent_of (extent_rows h tables) = x ∙ ap (λ t. map extent_of (rows 24 h.extents t)) b in
+    let gs : groups ≡ map group_of (group_rows h tables) = g ∙ ap (λ t. map group_of (rows 48 h.groups t)) e in
     λ i. record { minor = h.minor; flags = h.flags; partitions = p i; extents = xs i; groups = gs i; device = own i }

@@ -1,8 +1,9 @@
-ghost use Rattle.std.specs.Prelude.{◌≡◌, ℕ, List, ◌+◌, ◌*◌, ◌<◌, ◌≤◌, length, map, nat_lt, ◌==◌, bytes_eq};
+ghost use Rattle.std.specs.Prelude.{◌≡◌, ℕ, List, ◌+◌, ◌*◌, ◌<◌, ◌≤◌, length, map, nat_lt, ◌==◌, ◌^◌, bytes_eq};
 ghost use Rattle.std.specs.List.{list_all, list_any};
-ghost use Rattle.super_meta.specs.Contents.{are_distinct, take_in_turn, lies_in, shares, are_apart, are_attributes};
+ghost use Rattle.super_meta.specs.Contents.{are_distinct, take_in_turn, lies_in, shares, are_apart, are_attributes, is_version, content, are_indexed, are_laid, are_known, tables_size, is_sound};
+ghost use Rattle.super_meta.specs.Contents.{are_named_apart as are_apart_by_name};
 
-use crate::table::{BlockDevice, Extent, Group, Partition};
+use crate::table::{BlockDevice, Extent, Group, Partition, Table};
 use fb_frame::name::Name;
 
 /// An entry of a table that has a name.
@@ -103,7 +104,7 @@ pub fn lie_in(extents: &[Extent], device: &BlockDevice) -> bool
 
 /// Whether the partitions take so many extents in turn.
 #[tactic(auto, using(crate::proofs::CheckLemmas::turn_steps))]
-pub fn take_in_turn(partitions: &[Partition], extents: u32) -> bool
+pub fn take_in_turn(partitions: &[Partition], extents: usize) -> bool
     ensures { result ≡ take_in_turn extents 0 partitions.now }
 {
     let mut at = 0;
@@ -113,14 +114,16 @@ pub fn take_in_turn(partitions: &[Partition], extents: u32) -> bool
         }
         at += u64::from(partition.count);
     }
-    at == u64::from(extents)
+    at == extents as u64
 }
 
 /// Whether the group of each partition is one of so many.
-pub fn are_grouped(partitions: &[Partition], groups: u32) -> bool
+pub fn are_grouped(partitions: &[Partition], groups: usize) -> bool
     ensures { result ≡ list_all (λ p. nat_lt p.group groups) partitions.now }
 {
-    partitions.iter().all(|partition| partition.group < groups)
+    partitions
+        .iter()
+        .all(|partition| (partition.group as usize) < groups)
 }
 
 /// Whether the attributes are known to a minor version.
@@ -141,4 +144,39 @@ pub fn are_known(partitions: &[Partition], minor: u16) -> bool
     partitions
         .iter()
         .all(|partition| are_attributes(minor, partition.attributes))
+}
+
+impl Table {
+    /// Whether no two partitions and no two groups have the same name.
+    #[tactic(auto, unfolding(crate::specs::Contents::are_named_apart))]
+    pub(crate) fn is_named_apart(&self) -> bool
+        ensures { result ≡ are_apart_by_name (content self.now) }
+    {
+        are_named_apart(&self.partitions) && are_named_apart(&self.groups)
+    }
+
+    /// Whether the partitions take the extents in turn, and their groups are there.
+    #[tactic(auto, unfolding(crate::specs::Contents::are_indexed))]
+    pub(crate) fn is_indexed(&self) -> bool
+        ensures { result ≡ are_indexed (content self.now) }
+    {
+        take_in_turn(&self.partitions, self.extents.len())
+            && are_grouped(&self.partitions, self.groups.len())
+    }
+
+    /// Whether each extent lies in the device, and no two share a sector.
+    #[tactic(auto, unfolding(crate::specs::Contents::are_laid))]
+    pub(crate) fn is_laid(&self) -> bool
+        ensures { result ≡ are_laid (content self.now) }
+    {
+        lie_in(&self.extents, &self.device) && are_apart(&self.extents)
+    }
+
+    /// Whether each partition's attributes are known.
+    #[tactic(auto, unfolding(crate::specs::Contents::are_known))]
+    pub(crate) fn is_known(&self) -> bool
+        ensures { result ≡ are_known (content self.now) }
+    {
+        are_known(&self.partitions, self.minor)
+    }
 }

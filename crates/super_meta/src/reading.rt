@@ -1,15 +1,46 @@
-ghost use Rattle.std.specs.Prelude.{◌≡◌, ◌+◌, ◌*◌, ◌<◌, ◌≤◌, length, take, drop, map, Some, None, if◌then◌else◌, OnOk, IfOk, vec_capacity};
+ghost use Rattle.std.specs.Prelude.{◌≡◌, ◌+◌, ◌*◌, ◌<◌, ◌≤◌, length, take, drop, map, Some, None, true, if◌then◌else◌, OnOk, IfOk, vec_capacity};
 ghost use Rattle.std.specs.Result.{result_err};
 ghost use Rattle.super_meta.specs.declared.errors.MetaError.TheVariants.{BadName};
 ghost use Rattle.super_meta.specs.HeaderText.{header_size, lists_size};
 ghost use Rattle.super_meta.specs.Entries.{rows, partition_of, extent_of, group_of, device_of};
 ghost use Rattle.super_meta.specs.Contents.{content};
-ghost use Rattle.super_meta.specs.TableText.{content_in, names_hold, partition_rows, extent_rows, group_rows, device_row, entries_flaw, table_of};
+ghost use Rattle.super_meta.specs.TableText.{content_in, names_hold, sources_hold, reserved_hold, kinds_hold, behind, partition_rows, extent_rows, group_rows, device_row, entries_flaw, table_of};
 
-use crate::entries::{read_extents, read_groups, read_partitions};
+use crate::entries::{are_unset, are_zeros, read_extents, read_groups, read_partitions};
 use crate::errors::MetaError;
-use crate::header::{DEVICE, EXTENT, Header, PARTITION};
+use crate::header::{DEVICE, EXTENT, GROUP, Header, PARTITION, header_size};
+use crate::numbers::u32_at;
 use crate::table::{BlockDevice, Table};
+
+impl Header {
+    /// The entries of the extents, and what follows them, in the bytes behind the header.
+    fn extents_in<'a>(&self, tables: &'a [u8]) -> &'a [u8]
+        requires { lists_size self.now ≤ length tables.now }
+        ensures extents { result.now ≡ drop (52 * self.now.partitions) tables.now }
+        ensures long { 24 * self.now.extents ≤ length result.now }
+    {
+        &tables[PARTITION * self.partitions as usize..]
+    }
+
+    /// The entries of the groups, and what follows them.
+    fn groups_in<'a>(&self, tables: &'a [u8]) -> &'a [u8]
+        requires { lists_size self.now ≤ length tables.now }
+        ensures groups { result.now ≡ drop (52 * self.now.partitions + 24 * self.now.extents) tables.now }
+        ensures long { 48 * self.now.groups ≤ length result.now }
+    {
+        &tables[PARTITION * self.partitions as usize + EXTENT * self.extents as usize..]
+    }
+
+    /// The entry of the block device.
+    fn device_in<'a>(&self, tables: &'a [u8]) -> &'a [u8]
+        requires { lists_size self.now + 64 ≤ length tables.now }
+        ensures device { result.now ≡ device_row self.now tables.now }
+        ensures long { length result.now ≡ 64 }
+    {
+        let at = self.lists_size() as usize;
+        &tables[at..at + DEVICE]
+    }
+}
 
 impl Table {
     /// Reads the entries of the bytes behind a header into the lists, which have room for them.
@@ -25,21 +56,73 @@ impl Table {
         ensures extents { vec_capacity self.new.extents ≡ vec_capacity self.old.extents }
         ensures groups { vec_capacity self.new.groups ≡ vec_capacity self.old.groups }
     {
-        let extents = PARTITION * header.partitions as usize;
-        let groups = extents + EXTENT * header.extents as usize;
-        let devices = header.lists_size() as usize;
         self.minor = header.minor;
         self.flags = header.flags;
         self.partitions.clear();
         read_partitions(tables, header.partitions, &mut self.partitions)?;
         self.extents.clear();
-        read_extents(&tables[extents..], header.extents, &mut self.extents);
+        let extents = header.extents_in(tables);
+        read_extents(extents, header.extents, &mut self.extents);
         self.groups.clear();
-        read_groups(&tables[groups..], header.groups, &mut self.groups)?;
-        let Some(device) = BlockDevice::read(&tables[devices..devices + DEVICE]) else {
+        let groups = header.groups_in(tables);
+        read_groups(groups, header.groups, &mut self.groups)?;
+        let Some(device) = BlockDevice::read(header.device_in(tables)) else {
             return Err(MetaError::BadName);
         };
         self.device = device;
         Ok(())
     }
+
+    /// Tries what the entries of the lists say, and what else stands in them.
+    fn check(&self, bytes: &[u8], header: &Header) -> Result<(), MetaError>
+        requires long { header_size header.now.minor + (lists_size header.now + 64) ≤ length bytes.now }
+        requires content { content self.now ≡ content_in header.now (behind bytes.now header.now) }
+        requires named { names_hold header.now (behind bytes.now header.now) ≡ true }
+        ensures { result_err result ≡ entries_flaw bytes.now header.now (behind bytes.now header.now) }
+    {
+        let tables = &bytes[header_size(header.minor)..];
+        if !self.is_named_apart() {
+            return Err(MetaError::BadName);
+        }
+        if !self.is_indexed() || !sources_hold(header, tables) {
+            return Err(MetaError::BadIndex);
+        }
+        if !self.is_laid() {
+            return Err(MetaError::Overlap);
+        }
+        if !self.is_known() || !kinds_hold(bytes, header, tables) {
+            return Err(MetaError::Unsupported);
+        }
+        Ok(())
+    }
+}
+
+/// Whether each extent lies on the only block device.
+#[tactic(auto, unfolding(crate::specs::TableText::sources_hold))]
+fn sources_hold(header: &Header, tables: &[u8]) -> bool
+    requires { lists_size header.now + 64 ≤ length tables.now }
+    ensures { result ≡ sources_hold header.now tables.now }
+{
+    are_unset(header.extents_in(tables), header.extents, EXTENT, 20)
+}
+
+/// Whether the reserved bytes of the header are zeros.
+fn reserved_hold(bytes: &[u8], header: &Header) -> bool
+    requires { header_size header.now.minor ≤ length bytes.now }
+    ensures { result ≡ reserved_hold bytes.now header.now }
+{
+    header.minor != 2 || are_zeros(&bytes[132..256])
+}
+
+/// Whether each extent is linear, no group and no block device has a flag, and what is reserved is zeros.
+#[tactic(auto, unfolding(crate::specs::TableText::kinds_hold))]
+fn kinds_hold(bytes: &[u8], header: &Header, tables: &[u8]) -> bool
+    requires header { header_size header.now.minor ≤ length bytes.now }
+    requires tables { lists_size header.now + 64 ≤ length tables.now }
+    ensures { result ≡ kinds_hold bytes.now header.now tables.now }
+{
+    are_unset(header.extents_in(tables), header.extents, EXTENT, 8)
+        && are_unset(header.groups_in(tables), header.groups, GROUP, 36)
+        && u32_at(header.device_in(tables), 60) == 0
+        && reserved_hold(bytes, header)
 }
