@@ -6,3 +6,4 @@ pub mod HeaderLemmas
 pub mod RowLemmas
 pub mod CheckLemmas
 pub mod ReadLemmas
+pub mod FoundLemmas

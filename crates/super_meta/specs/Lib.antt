@@ -7,3 +7,4 @@ pub mod Entries
 pub mod Contents
 pub mod Laws
 pub mod TableText
+pub mod ImageText

@@ -8,7 +8,7 @@ use Rattle.super_meta.specs.declared.header.Header.{Header}
 use Rattle.super_meta.specs.Flaws.{first_flaw, or_flaw, ◌or_else◌}
 use Rattle.super_meta.specs.HeaderText.{header_size, header_at, lists_size, header_flaw}
 use Rattle.super_meta.specs.Entries.{rows, is_zero, is_named, is_name_field, is_unset, partition_of, extent_of, group_of, device_of}
-use Rattle.super_meta.specs.Contents.{Content, are_named_apart, are_indexed, are_laid, are_known}
+use Rattle.super_meta.specs.Contents.{Content, tables_size, are_named_apart, are_indexed, are_laid, are_known}
 
 -- the entries of each list, in the bytes behind the header
 abbrev pub partition_rows : Header → List ℕ → List (List ℕ)
@@ -74,3 +74,7 @@ table_flaw bytes = header_flaw bytes or_else entries_flaw bytes (header_at bytes
 -- the table with which the bytes begin, or the first thing that is wrong with it
 abbrev pub table_of : List ℕ → Result Content MetaError
 table_of bytes = or_flaw (table_flaw bytes) (content_in (header_at bytes) (behind bytes (header_at bytes)))
+
+-- how many bytes a table has, with its header
+abbrev pub table_size : Content → ℕ
+table_size c = header_size c.minor + tables_size c

@@ -34,3 +34,14 @@ pub enum MetaError {
     #[error("Unsupported")]
     Unsupported = 10,
 }
+
+/// Why a table isn't read.
+#[derive(Debug, Drop, Error)]
+pub enum ReadError {
+    /// Something is wrong with it.
+    #[error("{0}")]
+    Bad(MetaError),
+    /// There was no memory.
+    #[error("memory")]
+    Memory,
+}

@@ -1,5 +1,6 @@
-ghost use Rattle.std.specs.Prelude.{◌≡◌, ◌+◌, ◌*◌, ◌<◌, ◌≤◌, length, take, drop, map, Some, None, true, if◌then◌else◌, OnOk, IfOk, vec_capacity};
-ghost use Rattle.std.specs.Result.{result_err};
+ghost use Rattle.std.specs.Prelude.{◌≡◌, ◌+◌, ◌*◌, ◌<◌, ◌≤◌, length, take, drop, map, Some, None, true, if◌then◌else◌, OnOk, IfOk, Ok, Err, vec_capacity};
+ghost use Rattle.std.specs.Result.{result_err, IsErrOf};
+ghost use Rattle.super_meta.specs.declared.errors.MetaError.{MetaError};
 ghost use Rattle.super_meta.specs.declared.errors.MetaError.TheVariants.{BadName};
 ghost use Rattle.super_meta.specs.HeaderText.{header_size, lists_size};
 ghost use Rattle.super_meta.specs.Entries.{rows, partition_of, extent_of, group_of, device_of};
@@ -7,10 +8,12 @@ ghost use Rattle.super_meta.specs.Contents.{content};
 ghost use Rattle.super_meta.specs.TableText.{content_in, names_hold, sources_hold, reserved_hold, kinds_hold, behind, partition_rows, extent_rows, group_rows, device_row, entries_flaw, table_of};
 
 use crate::entries::{are_unset, are_zeros, read_extents, read_groups, read_partitions};
-use crate::errors::MetaError;
+use crate::errors::{MetaError, ReadError};
 use crate::header::{DEVICE, EXTENT, GROUP, Header, PARTITION, header_size};
 use crate::numbers::u32_at;
 use crate::table::{BlockDevice, Table};
+use fb_frame::name::Name;
+use std::alloc::{AllocError, Global};
 
 impl Header {
     /// The entries of the extents, and what follows them, in the bytes behind the header.
@@ -95,6 +98,53 @@ impl Table {
         }
         Ok(())
     }
+
+    /// Reads what stands behind a header that was read of the same bytes.
+    pub(crate) fn take_from(&mut self, bytes: &[u8], header: &Header) -> Result<(), MetaError>
+        requires long { header_size header.now.minor + (lists_size header.now + 64) ≤ length bytes.now }
+        requires partitions { header.now.partitions ≤ vec_capacity self.old.partitions }
+        requires extents { header.now.extents ≤ vec_capacity self.old.extents }
+        requires groups { header.now.groups ≤ vec_capacity self.old.groups }
+        ensures flaw { result_err result ≡ entries_flaw bytes.now header.now (behind bytes.now header.now) }
+        ensures content { OnOk result (content self.new ≡ content_in header.now (behind bytes.now header.now)) }
+        ensures partitions { vec_capacity self.new.partitions ≡ vec_capacity self.old.partitions }
+        ensures extents { vec_capacity self.new.extents ≡ vec_capacity self.old.extents }
+        ensures groups { vec_capacity self.new.groups ≡ vec_capacity self.old.groups }
+    {
+        self.fill(header, &bytes[header_size(header.minor)..])?;
+        self.check(bytes, header)?;
+        Ok(())
+    }
+
+    /// A table with room for so many partitions, extents and groups, which says nothing yet.
+    pub(crate) fn with_room(
+        alloc: Global,
+        partitions: usize,
+        extents: usize,
+        groups: usize,
+    ) -> Result<Table, AllocError>
+        ensures partitions { IfOk result (λ table. partitions ≤ vec_capacity table.partitions) }
+        ensures extents { IfOk result (λ table. extents ≤ vec_capacity table.extents) }
+        ensures groups { IfOk result (λ table. groups ≤ vec_capacity table.groups) }
+    {
+        let Some(name) = Name::read(b"super") else {
+            unreachable!();
+        };
+        Ok(Table {
+            minor: 0,
+            flags: 0,
+            partitions: Vec::with_capacity(alloc, partitions)?,
+            extents: Vec::with_capacity(alloc, extents)?,
+            groups: Vec::with_capacity(alloc, groups)?,
+            device: BlockDevice {
+                first_sector: 0,
+                alignment: 0,
+                offset: 0,
+                size: 0,
+                name,
+            },
+        })
+    }
 }
 
 /// Whether each extent lies on the only block device.
@@ -125,4 +175,25 @@ fn kinds_hold(bytes: &[u8], header: &Header, tables: &[u8]) -> bool
         && are_unset(header.groups_in(tables), header.groups, GROUP, 36)
         && u32_at(header.device_in(tables), 60) == 0
         && reserved_hold(bytes, header)
+}
+
+/// The table with which the bytes begin, or the first thing that is wrong with it.
+pub fn read_table(alloc: Global, bytes: &[u8]) -> Result<Table, ReadError>
+    ensures table { IfOk result (λ table. table_of bytes.now ≡ Ok (content table)) }
+    ensures flaw { (flaw : MetaError) → IsErrOf result (ReadError.Bad flaw) → table_of bytes.now ≡ Err flaw }
+{
+    let header = match Header::read(bytes) {
+        Ok(header) => header,
+        Err(flaw) => return Err(ReadError::Bad(flaw)),
+    };
+    let partitions = header.partitions as usize;
+    let extents = header.extents as usize;
+    let groups = header.groups as usize;
+    let mut table = Table::with_room(alloc, partitions, extents, groups).map_err(
+        |_| ReadError::Memory,
+    )?;
+    match table.take_from(bytes, &header) {
+        Ok(()) => Ok(table),
+        Err(flaw) => Err(ReadError::Bad(flaw)),
+    }
 }
