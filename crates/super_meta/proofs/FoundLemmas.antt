@@ -1,14 +1,16 @@
 -- A table by its header and what stands behind it.
-use Rattle.std.proofs.Common.{◌≡◌, ℕ, List, Option, Some, None, Result, Ok, Err, refl, sym, ap, subst, ◌∙◌}
-use Rattle.std.specs.Result.{IsErrOf}
+use Rattle.std.proofs.Common.{◌≡◌, ℕ, zero, suc, ◌+◌, ◌*◌, List, length, map, drop, Option, Some, None, Result, Ok, Err, refl, sym, ap, subst, ◌∙◌}
+use Rattle.std.specs.Result.{IsErrOf, result_err}
 use Rattle.super_meta.specs.declared.errors.MetaError.{MetaError}
 use Rattle.super_meta.specs.declared.errors.ReadError.{ReadError}
 use Rattle.super_meta.specs.declared.errors.ReadError.TheVariants.{Bad, Memory}
 use Rattle.super_meta.specs.declared.header.Header.{Header}
 use Rattle.super_meta.specs.Flaws.{or_flaw, ◌or_else◌}
-use Rattle.super_meta.specs.HeaderText.{header_at, header_flaw, header_of}
+use Rattle.super_meta.specs.HeaderText.{header_size, lists_size, header_at, header_flaw, header_of}
 use Rattle.super_meta.specs.Contents.{Content}
-use Rattle.super_meta.specs.TableText.{content_in, entries_flaw, behind, table_flaw, table_of}
+use Rattle.super_meta.specs.TableText.{content_in, entries_flaw, behind, table_flaw, table_of, table_size}
+use Rattle.super_meta.specs.Entries.{rows, partition_of, extent_of, group_of}
+use Rattle.std.proofs.lemmas.List.{length-map}
 
 -- no flaw where a value was read, and the value is the one that stands there
 pub no-flaw : {X : Type 0} (o : Option MetaError) (x y : X) → or_flaw o x ≡ Ok y → (o ≡ None) × (x ≡ y)
@@ -18,7 +20,7 @@ no-flaw (Some e) x y h = absurd cc
 abbrev pub bad : (T : Type 0) → MetaError → Result T ReadError
 bad T e = Err (Bad e)
 
-bad-same : (T : Type 0) (e d : MetaError) → IsErrOf (bad T e) (Bad d) → e ≡ d
+pub bad-same : (T : Type 0) (e d : MetaError) → IsErrOf (bad T e) (Bad d) → e ≡ d
 bad-same T e d h = cc
 
 -- what is read where nothing is wrong behind the header
@@ -40,3 +42,27 @@ read-err bytes h d a f =
 
 pub read-err-by : (T : Type 0) (bytes : List ℕ) (h : Header) (e : MetaError) → Ok h ≡ header_of bytes → Some e ≡ entries_flaw bytes h (behind bytes h) → (d : MetaError) → IsErrOf (bad T e) (Bad d) → table_of bytes ≡ Err d
 read-err-by T bytes h e a f d k = read-err bytes h e a f ∙ ap Err (bad-same T e d k)
+
+length-rows : (size n : ℕ) (bytes : List ℕ) → length (rows size n bytes) ≡ n
+unfolding rows
+length-rows size zero bytes = refl
+length-rows size (suc more) bytes = ap suc (length-rows size more (drop size bytes))
+
+count : {X : Type 0} (f : List ℕ → X) (size n : ℕ) (bytes : List ℕ) → length (map f (rows size n bytes)) ≡ n
+count f size n bytes = length-map (rows size n bytes) f ∙ length-rows size n bytes
+
+-- the size of what stands behind a header
+pub size-in : (h : Header) (tables : List ℕ) (c : Content) → c ≡ content_in h tables → table_size c ≡ header_size h.minor + (lists_size h + 64)
+unfolding content_in
+size-in h tables c e =
+    let a = count partition_of 52 h.partitions tables in
+    let b = count extent_of 24 h.extents (drop (52 * h.partitions) tables) in
+    let d = count group_of 48 h.groups (drop (52 * h.partitions + 24 * h.extents) tables) in
+    ap table_size e ∙ rw (a, b, d) refl
+
+pub ruleset sizes = (size-in)
+
+-- what is wrong, by what is wrong behind the header
+pub behind-header : (bytes : List ℕ) (h : Header) (o : Option MetaError) → Ok h ≡ header_of bytes → o ≡ entries_flaw bytes h (behind bytes h) → result_err (table_of bytes) ≡ o
+behind-header bytes h None a f = ap result_err (read-ok bytes h (content_in h (behind bytes h)) a f refl)
+behind-header bytes h (Some d) a f = ap result_err (read-err bytes h d a f)

@@ -7,3 +7,4 @@ pub mod RowLemmas
 pub mod CheckLemmas
 pub mod ReadLemmas
 pub mod FoundLemmas
+pub mod ImageLemmas

@@ -18,3 +18,9 @@ infixl 10 ◌or_else◌
 abbrev pub ◌or_else◌ : Option MetaError → Option MetaError → Option MetaError
 None or_else next = next
 (Some flaw) or_else next = Some flaw
+
+-- the next result of the value, where there is one
+infixl 10 ◌then_on◌
+abbrev pub ◌then_on◌ : {X Y E : Type 0} → Result X E → (X → Result Y E) → Result Y E
+(Ok x) then_on next = next x
+(Err e) then_on next = Err e

@@ -9,9 +9,10 @@ mod entries;
 pub mod errors;
 pub mod geometry;
 mod header;
+pub mod image;
 mod numbers;
 mod put;
-mod reading;
+pub mod reading;
 mod sealed;
 pub mod table;
 

@@ -1,11 +1,11 @@
-ghost use Rattle.std.specs.Prelude.{◌≡◌, ◌+◌, ◌*◌, ◌<◌, ◌≤◌, length, take, drop, map, Some, None, true, if◌then◌else◌, OnOk, IfOk, Ok, Err, vec_capacity};
+ghost use Rattle.std.specs.Prelude.{◌≡◌, ◌+◌, ◌*◌, ◌^◌, ◌<◌, ◌≤◌, length, take, drop, map, Some, None, true, if◌then◌else◌, OnOk, IfOk, Ok, Err, vec_capacity};
 ghost use Rattle.std.specs.Result.{result_err, IsErrOf};
 ghost use Rattle.super_meta.specs.declared.errors.MetaError.{MetaError};
 ghost use Rattle.super_meta.specs.declared.errors.MetaError.TheVariants.{BadName};
 ghost use Rattle.super_meta.specs.HeaderText.{header_size, lists_size};
 ghost use Rattle.super_meta.specs.Entries.{rows, partition_of, extent_of, group_of, device_of};
 ghost use Rattle.super_meta.specs.Contents.{content};
-ghost use Rattle.super_meta.specs.TableText.{content_in, names_hold, sources_hold, reserved_hold, kinds_hold, behind, partition_rows, extent_rows, group_rows, device_row, entries_flaw, table_of};
+ghost use Rattle.super_meta.specs.TableText.{content_in, names_hold, sources_hold, reserved_hold, kinds_hold, behind, partition_rows, extent_rows, group_rows, device_row, entries_flaw, table_of, table_size};
 
 use crate::entries::{are_unset, are_zeros, read_extents, read_groups, read_partitions};
 use crate::errors::{MetaError, ReadError};
@@ -100,6 +100,7 @@ impl Table {
     }
 
     /// Reads what stands behind a header that was read of the same bytes.
+    #[tactic(auto, using(crate::proofs::FoundLemmas::sizes))]
     pub(crate) fn take_from(&mut self, bytes: &[u8], header: &Header) -> Result<(), MetaError>
         requires long { header_size header.now.minor + (lists_size header.now + 64) ≤ length bytes.now }
         requires partitions { header.now.partitions ≤ vec_capacity self.old.partitions }
@@ -107,6 +108,7 @@ impl Table {
         requires groups { header.now.groups ≤ vec_capacity self.old.groups }
         ensures flaw { result_err result ≡ entries_flaw bytes.now header.now (behind bytes.now header.now) }
         ensures content { OnOk result (content self.new ≡ content_in header.now (behind bytes.now header.now)) }
+        ensures end { OnOk result (table_size (content self.new) ≤ length bytes.now) }
         ensures partitions { vec_capacity self.new.partitions ≡ vec_capacity self.old.partitions }
         ensures extents { vec_capacity self.new.extents ≡ vec_capacity self.old.extents }
         ensures groups { vec_capacity self.new.groups ≡ vec_capacity self.old.groups }
@@ -114,6 +116,18 @@ impl Table {
         self.fill(header, &bytes[header_size(header.minor)..])?;
         self.check(bytes, header)?;
         Ok(())
+    }
+
+    /// How many bytes the table has, with its header.
+    pub(crate) fn size(&self) -> usize
+        requires { table_size (content self.now) < 2 ^ 64 }
+        ensures { result ≡ table_size (content self.now) }
+    {
+        header_size(self.minor)
+            + PARTITION * self.partitions.len()
+            + EXTENT * self.extents.len()
+            + GROUP * self.groups.len()
+            + DEVICE
     }
 
     /// A table with room for so many partitions, extents and groups, which says nothing yet.
@@ -180,6 +194,7 @@ fn kinds_hold(bytes: &[u8], header: &Header, tables: &[u8]) -> bool
 /// The table with which the bytes begin, or the first thing that is wrong with it.
 pub fn read_table(alloc: Global, bytes: &[u8]) -> Result<Table, ReadError>
     ensures table { IfOk result (λ table. table_of bytes.now ≡ Ok (content table)) }
+    ensures end { IfOk result (λ table. table_size (content table) ≤ length bytes.now) }
     ensures flaw { (flaw : MetaError) → IsErrOf result (ReadError.Bad flaw) → table_of bytes.now ≡ Err flaw }
 {
     let header = match Header::read(bytes) {
