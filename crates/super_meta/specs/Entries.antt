@@ -50,7 +50,7 @@ partition_of row = record {
 
 unfoldable pub partition_bytes : Partition → List ℕ
 partition_bytes p =
-    name_field p.name ++ (to_le_bytes w32 p.attributes ++ to_le_bytes w32 p.first ++ to_le_bytes w32 p.count ++ to_le_bytes w32 p.group)
+    name_field p.name ++ to_le_bytes w32 p.attributes ++ to_le_bytes w32 p.first ++ to_le_bytes w32 p.count ++ to_le_bytes w32 p.group
 
 -- an extent's entry of 24 bytes: sectors, type, target and source, of which the type is linear and the source the only block device
 unfoldable pub extent_of : List ℕ → Extent
@@ -64,7 +64,7 @@ unfoldable pub group_of : List ℕ → Group
 group_of row = record { name = name_in (take 36 row); limit = u64_at 40 row }
 
 unfoldable pub group_bytes : Group → List ℕ
-group_bytes g = name_field g.name ++ (to_le_bytes w32 0 ++ to_le_bytes w64 g.limit)
+group_bytes g = name_field g.name ++ to_le_bytes w32 0 ++ to_le_bytes w64 g.limit
 
 -- a block device's entry of 64 bytes: first logical sector, alignment, alignment offset, size, name and flags
 unfoldable pub device_of : List ℕ → BlockDevice
@@ -78,8 +78,8 @@ device_of row = record {
 
 unfoldable pub device_bytes : BlockDevice → List ℕ
 device_bytes d =
-    (to_le_bytes w64 d.first_sector ++ to_le_bytes w32 d.alignment ++ to_le_bytes w32 d.offset ++ to_le_bytes w64 d.size)
-    ++ (name_field d.name ++ to_le_bytes w32 0)
+    to_le_bytes w64 d.first_sector ++ to_le_bytes w32 d.alignment ++ to_le_bytes w32 d.offset ++ to_le_bytes w64 d.size
+    ++ name_field d.name ++ to_le_bytes w32 0
 
 -- an entry with a name at its front
 abbrev pub is_named : List ℕ → Bool

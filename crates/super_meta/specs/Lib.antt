@@ -8,3 +8,4 @@ pub mod Contents
 pub mod Laws
 pub mod TableText
 pub mod ImageText
+pub mod TableBytes

@@ -15,6 +15,7 @@ mod put;
 pub mod reading;
 mod sealed;
 pub mod table;
+pub mod writing;
 
 /// The laws of the definitions.
 pub fn laws()

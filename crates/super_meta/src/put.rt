@@ -35,3 +35,16 @@ pub fn clear(buf: &mut [u8])
 {
     buf.fill(0);
 }
+
+/// Writes so many zeros at a place, and answers the place behind them.
+#[tactic(auto, using(crate::proofs::PutLemmas::puts), unfolding(crate::specs::Sealed::zeros))]
+pub fn put_zeros(buf: &mut [u8], at: usize, count: usize) -> usize
+    requires { at + count ≤ length buf.old }
+    ensures at { result ≡ at + count }
+    ensures front { take result buf.new ≡ take at buf.old ++ zeros count }
+    ensures rest { (n : ℕ) → result ≤ n → drop n buf.new ≡ drop n buf.old }
+{
+    let end = at + count;
+    buf[at..end].fill(0);
+    end
+}
