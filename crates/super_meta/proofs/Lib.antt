@@ -8,3 +8,4 @@ pub mod CheckLemmas
 pub mod ReadLemmas
 pub mod FoundLemmas
 pub mod ImageLemmas
+pub mod WriteLemmas

@@ -3,6 +3,7 @@ ghost use Rattle.std.specs.List.{flat_map};
 ghost use Rattle.super_meta.specs.Entries.{name_field, partition_bytes, extent_bytes, group_bytes, device_bytes};
 ghost use Rattle.super_meta.specs.TableBytes.{header_front, descriptor, descriptors, header_core, flags_bytes, tables_bytes, table_bytes};
 ghost use Rattle.super_meta.specs.TableText.{table_size};
+ghost use Rattle.super_meta.specs.Sealed.{sealed};
 ghost use Rattle.super_meta.specs.HeaderText.{header_size};
 ghost use Rattle.super_meta.specs.Contents.{content, tables_size, is_sound};
 
@@ -163,8 +164,11 @@ impl Table {
         requires { tables_size (content self.now) < 2 ^ 32 }
         ensures { result ≡ descriptors (content self.now) }
     {
-        let (partitions, extents, groups) =
-            (self.partitions.len(), self.extents.len(), self.groups.len());
+        let (partitions, extents, groups) = (
+            self.partitions.len(),
+            self.extents.len(),
+            self.groups.len(),
+        );
         let extents_at = PARTITION * partitions;
         let groups_at = extents_at + EXTENT * extents;
         let devices_at = groups_at + GROUP * groups;
@@ -175,4 +179,88 @@ impl Table {
         put(&mut bytes, at, &descriptor(devices_at, 1, DEVICE));
         bytes
     }
+
+    /// What every version has behind the header's digest.
+    #[tactic(auto, using(crate::proofs::PutLemmas::wholes), unfolding(crate::specs::TableBytes::header_core))]
+    fn header_core(&self, size: u32, digest: &[u8; 32]) -> [u8; 84]
+        requires size { size ≡ tables_size (content self.now) }
+        ensures { result ≡ header_core (content self.now) digest.now }
+    {
+        let mut core = [0; 84];
+        let at = put(&mut core, 0, &size.to_le_bytes());
+        let at = put(&mut core, at, digest);
+        put(&mut core, at, &self.descriptors());
+        core
+    }
+
+    /// Writes the flags and the reserved bytes of version 10.2 at a place, and answers the place behind them.
+    #[tactic(auto, using(crate::proofs::WriteLemmas::groups), unfolding(crate::specs::TableBytes::flags_bytes))]
+    fn put_flags(&self, buf: &mut [u8], at: usize) -> usize
+        requires { at + header_size self.now.minor ≤ length buf.old + 128 }
+        ensures at { result + 128 ≡ at + header_size self.now.minor }
+        ensures front { take result buf.new ≡ take at buf.old ++ flags_bytes (content self.now) }
+        ensures rest { (n : ℕ) → result ≤ n → drop n buf.new ≡ drop n buf.old }
+    {
+        if self.minor != 2 {
+            return at;
+        }
+        let at = put(buf, at, &self.flags.to_le_bytes());
+        put_zeros(buf, at, 124)
+    }
+
+    /// Writes the header at the front, by the size and the digest of the lists.
+    fn put_header(&self, buf: &mut [u8], size: u32, lists: &[u8; 32])
+        requires size { size ≡ tables_size (content self.now) }
+        requires room { header_size self.now.minor ≤ length buf.old }
+        ensures header { take (header_size self.now.minor) buf.new ≡ sealed (header_front self.now.minor) (header_core (content self.now) lists.now ++ flags_bytes (content self.now)) }
+        ensures rest { (n : ℕ) → header_size self.now.minor ≤ n → drop n buf.new ≡ drop n buf.old }
+    {
+        let at = put(buf, 0, &header_front(self.minor));
+        let at = put_zeros(buf, at, 32);
+        let at = put(buf, at, &self.header_core(size, lists));
+        let end = self.put_flags(buf, at);
+        let seal = digest(&buf[..end]);
+        put(buf, 12, &seal);
+    }
+
+    /// Writes the lists at a place, and answers the place behind them.
+    #[tactic(auto, using(crate::proofs::WriteLemmas::groups), unfolding(crate::specs::TableBytes::tables_bytes))]
+    fn put_tables(&self, buf: &mut [u8], at: usize) -> usize
+        requires { at + tables_size (content self.now) ≤ length buf.old }
+        ensures at { result ≡ at + tables_size (content self.now) }
+        ensures front { take result buf.new ≡ take at buf.old ++ tables_bytes (content self.now) }
+        ensures rest { (n : ℕ) → result ≤ n → drop n buf.new ≡ drop n buf.old }
+    {
+        let at = put_partitions(buf, at, &self.partitions);
+        let at = put_extents(buf, at, &self.extents);
+        let at = put_groups(buf, at, &self.groups);
+        put(buf, at, &self.device.entry())
+    }
+}
+
+/// The buffer is shorter than the table.
+#[derive(Debug, Drop, Error)]
+#[error("table too long")]
+pub struct TooLong;
+
+/// Writes a sound table at the front of a buffer in its one spelling, and answers how many bytes it has.
+/// `TooLong` comes exactly where the buffer is shorter, which is then unchanged.
+pub fn write_table(table: &Table, buf: &mut [u8]) -> Result<usize, TooLong>
+    requires sound { IsTrue (is_sound (content table.now)) }
+    ensures size { IfOk result (λ size. size ≡ table_size (content table.now)) }
+    ensures bytes { OnOk result (take (table_size (content table.now)) buf.new ≡ table_bytes (content table.now)) }
+    ensures rest { OnOk result (drop (table_size (content table.now)) buf.new ≡ drop (table_size (content table.now)) buf.old) }
+    ensures fits { OnOk result (table_size (content table.now) ≤ length buf.old) }
+    ensures long { OnErr result (length buf.old < table_size (content table.now)) }
+    ensures kept { OnErr result (buf.new ≡ buf.old) }
+{
+    let end = table.size();
+    if buf.len() < end {
+        return Err(TooLong);
+    }
+    let start = header_size(table.minor);
+    table.put_tables(buf, start);
+    let lists = digest(&buf[start..end]);
+    table.put_header(buf, (end - start) as u32, &lists);
+    Ok(end)
 }

@@ -7,4 +7,5 @@ abbrev pub invariant-loop-extent : goal.invariant-loop-extent
 invariant-loop-extent l = record {
   at : l.place ≡ l.at + 24 * l.extent-index;
   front : take l.place l.buf ≡ take l.at l.initial.buf ++ flat_map extent_bytes (take l.extent-index l.extents);
-  rest : (n : ℕ) → l.place ≤ n → drop n l.buf ≡ drop n l.initial.buf }
+  rest : (n : ℕ) → l.place ≤ n → drop n l.buf ≡ drop n l.initial.buf;
+}

@@ -7,4 +7,5 @@ abbrev pub invariant-loop-group : goal.invariant-loop-group
 invariant-loop-group l = record {
   at : l.place ≡ l.at + 48 * l.group-index;
   front : take l.place l.buf ≡ take l.at l.initial.buf ++ flat_map group_bytes (take l.group-index l.groups);
-  rest : (n : ℕ) → l.place ≤ n → drop n l.buf ≡ drop n l.initial.buf }
+  rest : (n : ℕ) → l.place ≤ n → drop n l.buf ≡ drop n l.initial.buf;
+}

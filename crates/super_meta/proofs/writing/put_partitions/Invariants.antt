@@ -7,4 +7,5 @@ abbrev pub invariant-loop-partition : goal.invariant-loop-partition
 invariant-loop-partition l = record {
   at : l.place ≡ l.at + 52 * l.partition-index;
   front : take l.place l.buf ≡ take l.at l.initial.buf ++ flat_map partition_bytes (take l.partition-index l.partitions);
-  rest : (n : ℕ) → l.place ≤ n → drop n l.buf ≡ drop n l.initial.buf }
+  rest : (n : ℕ) → l.place ≤ n → drop n l.buf ≡ drop n l.initial.buf;
+}
