@@ -48,7 +48,7 @@ unfolding rows
 length-rows size zero bytes = refl
 length-rows size (suc more) bytes = ap suc (length-rows size more (drop size bytes))
 
-count : {X : Type 0} (f : List ℕ → X) (size n : ℕ) (bytes : List ℕ) → length (map f (rows size n bytes)) ≡ n
+pub count : {X : Type 0} (f : List ℕ → X) (size n : ℕ) (bytes : List ℕ) → length (map f (rows size n bytes)) ≡ n
 count f size n bytes = length-map (rows size n bytes) f ∙ length-rows size n bytes
 
 -- the size of what stands behind a header

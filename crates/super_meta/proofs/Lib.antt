@@ -9,3 +9,7 @@ pub mod ReadLemmas
 pub mod FoundLemmas
 pub mod ImageLemmas
 pub mod WriteLemmas
+pub mod NameLemmas
+pub mod EntryLemmas
+pub mod HeadLemmas
+pub mod TakenLemmas

@@ -51,3 +51,29 @@ header_back c = header_core c (sha256 (tables_bytes c)) ++ flags_bytes c
 -- a table's bytes
 abbrev pub table_bytes : Content → List ℕ
 table_bytes c = sealed (header_front c.minor) (header_back c) ++ tables_bytes c
+
+-- a partition, an extent, a group and a block device whose name is one and whose numbers fit their fields
+abbrev pub partition_fits : Partition → Bool
+partition_fits p = is_name p.name && nat_lt p.attributes (2 ^ 32) && nat_lt p.first (2 ^ 32) && nat_lt p.count (2 ^ 32) && nat_lt p.group (2 ^ 32)
+
+abbrev pub extent_fits : Extent → Bool
+extent_fits e = nat_lt e.sectors (2 ^ 64) && nat_lt e.target (2 ^ 64)
+
+abbrev pub group_fits : Group → Bool
+group_fits g = is_name g.name && nat_lt g.limit (2 ^ 64)
+
+abbrev pub device_fits : BlockDevice → Bool
+device_fits d =
+    is_name d.name && nat_lt d.first_sector (2 ^ 64) && nat_lt d.alignment (2 ^ 32) && nat_lt d.offset (2 ^ 32) && nat_lt d.size (2 ^ 64)
+
+-- each name is one, and each number fits its field
+unfoldable pub fits : Content → Bool
+fits c =
+    list_all partition_fits c.partitions && list_all extent_fits c.extents && list_all group_fits c.groups
+    && device_fits c.device && nat_lt c.flags (2 ^ 32)
+
+-- The bytes begin with this table. What follows its last list counts for nothing.
+pub record TableBytes (c : Content) (bytes : List ℕ) : Type 0 where
+  pub sound : IsTrue (is_sound c)
+  pub fitting : IsTrue (fits c)
+  pub spelled : take (table_size c) bytes ≡ table_bytes c

@@ -3,6 +3,7 @@ ghost use Rattle.std.specs.List.{list_all, list_any};
 ghost use Rattle.super_meta.specs.Contents.{are_distinct, take_in_turn, lies_in, shares, are_apart, are_attributes, is_version, content, are_indexed, are_laid, are_known, tables_size, is_sound};
 ghost use Rattle.super_meta.specs.Contents.{are_named_apart as are_apart_by_name};
 
+use crate::header::{DEVICE, EXTENT, GROUP, PARTITION};
 use crate::table::{BlockDevice, Extent, Group, Partition, Table};
 use fb_frame::name::Name;
 
@@ -179,4 +180,38 @@ impl Table {
     {
         are_known(&self.partitions, self.minor)
     }
+
+    /// Whether the size of the lists fits its field.
+    fn is_short(&self) -> bool
+        ensures { result ≡ nat_lt (tables_size (content self.now)) (2 ^ 32) }
+    {
+        let (partitions, extents, groups) = (
+            self.partitions.len(),
+            self.extents.len(),
+            self.groups.len(),
+        );
+        partitions < 1 << 27
+            && extents < 1 << 28
+            && groups < 1 << 27
+            && PARTITION * partitions + EXTENT * extents + GROUP * groups + DEVICE < 1 << 32
+    }
+
+    /// Whether the table can be written: nothing is wrong with what it says, and its size fits its field.
+    pub fn is_sound(&self) -> bool
+        ensures { result ≡ is_sound (content self.now) }
+    {
+        self.is_named_apart()
+            && self.is_indexed()
+            && self.is_laid()
+            && self.is_known()
+            && is_version(self.minor, self.flags)
+            && self.is_short()
+    }
+}
+
+/// Whether there is such a minor version, and the flags are 0 where it has none.
+fn is_version(minor: u16, flags: u32) -> bool
+    ensures { result ≡ is_version minor flags }
+{
+    minor <= 2 && (minor == 2 || flags == 0)
 }

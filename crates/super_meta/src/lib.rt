@@ -22,3 +22,6 @@ pub fn laws()
     ensures geometry_read { GeometryRead }
     ensures one_geometry { OneGeometry }
 {}
+
+#[cfg(test)]
+mod tests;
