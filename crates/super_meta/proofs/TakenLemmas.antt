@@ -194,3 +194,104 @@ tables-size h tables =
     let b = count extent_of 24 h.extents (drop (52 * h.partitions) tables) in
     let d = count group_of 48 h.groups (drop (52 * h.partitions + 24 * h.extents) tables) in
     rw (a, b, d) refl
+
+-- what stands behind the digest
+back-is : (bytes tables : List ℕ) (h : Header) → h ≡ header_at bytes → AreBytes bytes → header_size h.minor + (lists_size h + 64) ≤ length bytes →
+    u32_at 44 bytes ≡ lists_size h + 64 → AreDescribed bytes h.partitions h.extents h.groups → tables_hold bytes (header_size h.minor) (u32_at 44 bytes) ≡ true →
+    reserved_hold bytes h ≡ true → tables ≡ behind bytes h → take (lists_size h + 64) tables ≡ tables_bytes (content_in h tables) →
+    take (header_size h.minor - 44) (drop 44 bytes) ≡ header_back (content_in h tables)
+unfolding header_back content_in header_at flags_at tables_hold
+back-is bytes tables h e b l more d sum reserved t lists =
+    let c = content_in h tables in
+    let hs = header_size h.minor in
+    let low = header_size-low h.minor in
+    let size = more ∙ sym (tables-size h tables) in
+    let digest : take 32 (drop 48 bytes) ≡ sha256 (tables_bytes c) =
+        (bytes_eq-Decides (take 32 (drop 48 bytes)) (sha256 (take (u32_at 44 bytes) (drop hs bytes)))).0 sum
+        ∙ ap sha256 (ap (λ n. take n (drop hs bytes)) more ∙ (ap (take (lists_size h + 64)) (sym t) ∙ lists)) in
+    let partitions : u32_at 84 bytes ≡ h.partitions = ap (λ (x : Header). x.partitions) (sym e) in
+    let extents : u32_at 96 bytes ≡ h.extents = ap (λ (x : Header). x.extents) (sym e) in
+    let groups : u32_at 108 bytes ≡ h.groups = ap (λ (x : Header). x.groups) (sym e) in
+    let minor : h.minor ≡ u16_at 6 bytes = ap (λ (x : Header). x.minor) e in
+    let flags : h.flags ≡ (if h.minor == 2 then u32_at 128 bytes else 0) = ap (λ (x : Header). x.flags) e ∙ ap (λ n. if n == 2 then u32_at 128 bytes else 0) (sym minor) in
+    let descs = descriptors-back bytes h.partitions h.extents h.groups b (omega arith) partitions extents groups d
+        ∙ sym (descriptors-are c h.partitions h.extents h.groups (count partition_of 52 h.partitions tables) (count extent_of 24 h.extents (drop (52 * h.partitions) tables)) (count group_of 48 h.groups (drop (52 * h.partitions + 24 * h.extents) tables))) in
+    let core = core-back bytes (sha256 (tables_bytes c)) c h.partitions h.extents h.groups b (omega arith) size digest descs in
+    let rest = flags-back bytes c b (omega arith) flags reserved in
+    part 84 (hs - 128) (hs - 44) 44 128 bytes (omega arith) refl
+    ∙ (ap (λ x. x ++ take (hs - 128) (drop 128 bytes)) core ∙ ap (λ x. header_core c (sha256 (tables_bytes c)) ++ x) rest)
+
+version-by : (h : Header) (tables bytes : List ℕ) → h.minor ≤ 2 → h.flags ≡ (if h.minor == 2 then u32_at 128 bytes else 0) → is_version (content_in h tables).minor (content_in h tables).flags ≡ true
+unfolding content_in
+version-by h tables bytes m f = ap (is_version h.minor) f ∙ version-is h.minor (u32_at 128 bytes) m
+
+-- a sound table
+sound-is : (h : Header) (tables bytes : List ℕ) → AreBytes bytes → h.minor ≤ 2 → h.flags ≡ (if h.minor == 2 then u32_at 128 bytes else 0) → u32_at 44 bytes ≡ lists_size h + 64 →
+    are_named_apart (content_in h tables) ≡ true → are_indexed (content_in h tables) ≡ true → are_laid (content_in h tables) ≡ true → are_known (content_in h tables) ≡ true → is_sound (content_in h tables) ≡ true
+sound-is h tables bytes b m f more apart indexed laid known =
+    let small : tables_size (content_in h tables) < 2 ^ 32 = let s = below32 44 bytes b in omega (arith, tables-size h tables, more, s) in
+    bothly _ _ (bothly _ _ (bothly _ _ (bothly _ _ (bothly _ _ apart indexed) laid) known) (version-by h tables bytes m f)) (below _ _ small)
+
+flags-are : (bytes : List ℕ) → (header_at bytes).flags ≡ (if (header_at bytes).minor == 2 then u32_at 128 bytes else 0)
+unfolding header_at flags_at
+flags-are bytes = refl
+
+fields-are : (bytes : List ℕ) → ((header_at bytes).minor ≡ u16_at 6 bytes) × ((header_at bytes).partitions ≡ u32_at 84 bytes) × ((header_at bytes).extents ≡ u32_at 96 bytes) × ((header_at bytes).groups ≡ u32_at 108 bytes)
+unfolding header_at
+fields-are bytes = (refl, refl, refl, refl)
+
+digest-is : (bytes front back : List ℕ) (hs : ℕ) → header_holds bytes hs ≡ true → take 12 bytes ≡ front → take (hs - 44) (drop 44 bytes) ≡ back → take 32 (drop 12 bytes) ≡ digest_around front back
+unfolding header_holds
+digest-is bytes front back hs h f k =
+    (bytes_eq-Decides (take 32 (drop 12 bytes)) (digest_around (take 12 bytes) (take (hs - 44) (drop 44 bytes)))).0 h
+    ∙ (ap (λ t. digest_around t (take (hs - 44) (drop 44 bytes))) f ∙ ap (digest_around front) k)
+
+kinds-are : (bytes : List ℕ) (h : Header) (tables : List ℕ) → kinds_hold bytes h tables ≡ true →
+    (list_all (is_unset 8) (extent_rows h tables) ≡ true) × (list_all (is_unset 36) (group_rows h tables) ≡ true) × (is_unset 60 (device_row h tables) ≡ true) × (reserved_hold bytes h ≡ true)
+unfolding kinds_hold
+kinds-are bytes h tables k =
+    let a = both (list_all (is_unset 8) (extent_rows h tables) && list_all (is_unset 36) (group_rows h tables) && is_unset 60 (device_row h tables)) (reserved_hold bytes h) k in
+    let b = both (list_all (is_unset 8) (extent_rows h tables) && list_all (is_unset 36) (group_rows h tables)) (is_unset 60 (device_row h tables)) a.0 in
+    let d = both (list_all (is_unset 8) (extent_rows h tables)) (list_all (is_unset 36) (group_rows h tables)) b.0 in
+    (d.0, d.1, b.1, a.1)
+
+minor-in : (h : Header) (tables : List ℕ) → (content_in h tables).minor ≡ h.minor
+unfolding content_in
+minor-in h tables = refl
+
+pub takes : (bytes : List ℕ) (c : Content) → AreBytes bytes → table_of bytes ≡ Ok c → TableBytes c bytes
+takes bytes c b e =
+    let h = header_at bytes in
+    let tables = behind bytes h in
+    let hs = header_size h.minor in
+    let n = no-flaw (table_flaw bytes) (content_in h tables) c e in
+    let a = none-both (header_flaw bytes) (entries_flaw bytes h tables) n.0 in
+    let k = none-both (size_flaw bytes h) (seal_flaw bytes h) a.0 in
+    let s = sized (length bytes) (u32_at 0 bytes) (u16_at 4 bytes) h.minor (u32_at 8 bytes) (u32_at 44 bytes) (lists_size h) (u32_at 120 bytes) k.0 in
+    let l = seals-hold (header_holds bytes hs) (tables_hold bytes hs (u32_at 44 bytes)) (are_described bytes h) k.1 in
+    let d = described bytes h l.2 in
+    let r = right (names_hold h tables) (are_named_apart (content_in h tables)) (are_indexed (content_in h tables)) (sources_hold h tables) (are_laid (content_in h tables)) (are_known (content_in h tables)) (kinds_hold bytes h tables) a.1 in
+    let kinds = kinds-are bytes h tables r.kinds-is in
+    let f = fields-are bytes in
+    let more : u32_at 44 bytes ≡ lists_size h + 64 = omega (arith, s.more-is, d.devices) in
+    let long : hs + (lists_size h + 64) ≤ length bytes = omega (arith, s.long-is, more) in
+    let low = header_size-low h.minor in
+    let tb = bytes-drop hs bytes b in
+    let lists = lists-back h tables tb (omega (arith, length-drop hs bytes, long)) r.named-is r.sources-is kinds.0 kinds.1 kinds.2 in
+    let front : take 12 bytes ≡ header_front h.minor = front-back bytes b (omega (arith, s.len-is)) s.magic-is s.major-is (s.size-is ∙ ap header_size f.0) ∙ ap header_front (sym f.0) in
+    let back = back-is bytes tables h refl b long more d l.1 kinds.3 refl lists in
+    let digest = digest-is bytes (header_front h.minor) (header_back (content_in h tables)) hs l.0 front back in
+    let head : take hs bytes ≡ sealed (header_front h.minor) (header_back (content_in h tables)) = seals 12 (hs - 44) 44 hs bytes (header_front h.minor) (header_back (content_in h tables)) refl (omega arith) front back digest in
+    let size : table_size (content_in h tables) ≡ hs + (lists_size h + 64) = size-in h tables (content_in h tables) refl in
+    let spelled : take (table_size (content_in h tables)) bytes ≡ table_bytes (content_in h tables) =
+        ap (λ m. take m bytes) size
+        ∙ (part hs (lists_size h + 64) (hs + (lists_size h + 64)) 0 hs bytes refl (omega arith)
+        ∙ (ap (λ t. t ++ take (lists_size h + 64) (drop hs bytes)) head
+        ∙ (ap (λ t. sealed (header_front h.minor) (header_back (content_in h tables)) ++ t) lists
+        ∙ ap (λ m. sealed (header_front m) (header_back (content_in h tables)) ++ tables_bytes (content_in h tables)) (sym (minor-in h tables))))) in
+    subst (λ (x : Content). TableBytes x bytes) n.1
+    (record {
+      sound = sound-is h tables bytes b s.minor-is (flags-are bytes) more r.apart-is r.indexed-is r.laid-is r.known-is;
+      fitting = fits-in h tables tb r.named-is r.sources-is (let q = flags-fit bytes h.minor b in subst (λ (m : ℕ). m < 2 ^ 32) (sym (flags-are bytes)) q);
+      spelled = spelled;
+    })
