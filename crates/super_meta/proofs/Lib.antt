@@ -13,3 +13,5 @@ pub mod NameLemmas
 pub mod EntryLemmas
 pub mod HeadLemmas
 pub mod TakenLemmas
+pub mod AgainLemmas
+pub mod GivenLemmas

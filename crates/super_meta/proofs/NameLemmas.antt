@@ -70,7 +70,7 @@ all-front (b ∷ name) rest h =
     let q = not-zero b p.0 in
     rw q (ap (λ n. 1 + n) (all-front name rest p.1) ∙ omega arith)
 
-zeros-pass : (n : ℕ) → list_all is_zero (replicate n 0) ≡ true
+pub zeros-pass : (n : ℕ) → list_all is_zero (replicate n 0) ≡ true
 zeros-pass zero = refl
 zeros-pass (suc n) = zeros-pass n
 
