@@ -1,19 +1,14 @@
 -- An entry that is read is the entry that was written, and what was written is read again.
-use Rattle.std.proofs.Common.{◌≡◌, ℕ, zero, suc, ◌+◌, ◌-◌, ◌*◌, ◌^◌, ◌<◌, ◌≤◌, Bool, true, false, List, [], ◌∷◌, ◌++◌, length, take, drop, map, refl, sym, ap, ◌∙◌, arith, append_assoc}
-use Rattle.std.specs.Prelude.{◌&&◌, ◌==◌, nat_lt}
+use Rattle.std.proofs.Common.{◌≡◌, ℕ, zero, suc, ◌+◌, ◌*◌, ◌≤◌, Bool, true, List, [], ◌∷◌, ◌++◌, length, take, drop, map, refl, sym, ap, ◌∙◌, arith}
+use Rattle.std.specs.Prelude.{◌&&◌, ◌==◌}
 use Rattle.std.specs.List.{list_all, flat_map}
 use Rattle.std.specs.Int.{w16, w32, w64, to_le_bytes}
 use Rattle.std.proofs.Math.Seq.{take-add}
 use Rattle.std.proofs.lemmas.Bool.Decides.{nat_tests}
-use Rattle.std.proofs.lemmas.List.{take_all, drop-drop, length-drop, length-take-le, take_at, drop_at}
-use Rattle.fb_frame.specs.NameText.{is_name}
-use Rattle.super_meta.specs.declared.table.Partition.{Partition}
-use Rattle.super_meta.specs.declared.table.Extent.{Extent}
-use Rattle.super_meta.specs.declared.table.Group.{Group}
-use Rattle.super_meta.specs.declared.table.BlockDevice.{BlockDevice}
+use Rattle.std.proofs.lemmas.List.{take_all, length-drop, length-take-le}
 use Rattle.super_meta.specs.Numbers.{u16_at, u32_at, u64_at, AreBytes}
 use Rattle.super_meta.specs.Entries.{rows, name_in, is_name_field, name_field, is_named, is_unset, partition_of, partition_bytes, extent_of, extent_bytes, group_of, group_bytes, device_of, device_bytes}
-use Rattle.super_meta.proofs.FieldLemmas.{bytes-drop, bytes-take, field16, field32, field64, again32, again64}
+use Rattle.super_meta.proofs.FieldLemmas.{bytes-drop, bytes-take, field16, field32, field64}
 use Rattle.super_meta.proofs.SealLemmas.{part}
 use Rattle.super_meta.proofs.NameLemmas.{both, name-back}
 

@@ -1,9 +1,9 @@
 -- A table by its header and what stands behind it.
-use Rattle.std.proofs.Common.{◌≡◌, ℕ, zero, suc, ◌+◌, ◌*◌, List, length, map, drop, Option, Some, None, Result, Ok, Err, refl, sym, ap, subst, ◌∙◌}
+use Rattle.std.proofs.Common.{◌≡◌, ℕ, zero, suc, ◌+◌, ◌*◌, List, length, map, drop, Option, Some, None, Result, Ok, Err, refl, sym, ap, ◌∙◌}
 use Rattle.std.specs.Result.{IsErrOf, result_err}
 use Rattle.super_meta.specs.declared.errors.MetaError.{MetaError}
 use Rattle.super_meta.specs.declared.errors.ReadError.{ReadError}
-use Rattle.super_meta.specs.declared.errors.ReadError.TheVariants.{Bad, Memory}
+use Rattle.super_meta.specs.declared.errors.ReadError.TheVariants.{Bad}
 use Rattle.super_meta.specs.declared.header.Header.{Header}
 use Rattle.super_meta.specs.Flaws.{or_flaw, ◌or_else◌}
 use Rattle.super_meta.specs.HeaderText.{header_size, lists_size, header_at, header_flaw, header_of}

@@ -1,32 +1,29 @@
 -- A table is read of bytes that spell it.
-use Rattle.std.proofs.Common.{◌≡◌, ◌≢◌, ℕ, zero, suc, ◌+◌, ◌-◌, ◌*◌, ◌^◌, ◌<◌, ◌≤◌, Bool, true, false, List, [], ◌∷◌, ◌++◌, length, take, drop, map, replicate, Option, Some, None, Result, Ok, Err, refl, sym, ap, ◌∙◌, subst, arith, lit<, ⊎_elim, append_assoc, length-append}
-use Rattle.std.specs.Prelude.{◌&&◌, ◌||◌, not, nat_lt, nat_le, ◌==◌, bytes_eq, if◌then◌else◌, min}
+use Rattle.std.proofs.Common.{◌≡◌, ◌≢◌, ℕ, ◌+◌, ◌-◌, ◌*◌, ◌^◌, ◌<◌, ◌≤◌, true, List, ◌++◌, length, take, drop, map, None, Result, Ok, refl, sym, ap, ◌∙◌, subst, arith, lit<, ⊎_elim, append_assoc, length-append}
+use Rattle.std.specs.Prelude.{◌==◌, if◌then◌else◌}
 use Rattle.std.specs.List.{list_all, flat_map}
-use Rattle.std.specs.Int.{w16, w32, w64, to_le_bytes}
+use Rattle.std.specs.Int.{w32, to_le_bytes}
 use Rattle.std.proofs.lemmas.Bool.Decides.{nat_tests, eqb_tells}
-use Rattle.std.proofs.lemmas.List.{length-take, length-drop, length-map, drop-drop, take_at, drop_at, take-append-drop}
+use Rattle.std.proofs.lemmas.List.{length-take, drop-drop, take_at, drop_at, take-append-drop}
 use Rattle.std.proofs.lemmas.Slice.Eq.{bytes_eq-Decides}
 use Rattle.sha2.specs.Sha256.{sha256}
 use Rattle.sha2.proofs.Facts256.{length-sha256}
 use Rattle.super_meta.specs.declared.errors.MetaError.{MetaError}
 use Rattle.super_meta.specs.declared.header.Header.{Header}
-use Rattle.super_meta.specs.declared.table.Partition.{Partition}
-use Rattle.super_meta.specs.declared.table.Extent.{Extent}
-use Rattle.super_meta.specs.declared.table.Group.{Group}
-use Rattle.super_meta.specs.Flaws.{first_flaw, or_flaw, ◌or_else◌}
-use Rattle.super_meta.specs.Numbers.{u16_at, u32_at, u64_at, AreBytes}
+use Rattle.super_meta.specs.Flaws.{or_flaw, ◌or_else◌}
+use Rattle.super_meta.specs.Numbers.{u16_at, u32_at}
 use Rattle.super_meta.specs.Sealed.{zeros, digest_around, sealed}
-use Rattle.super_meta.specs.Entries.{rows, is_zero, is_named, is_unset, is_name_field, name_in, partition_of, partition_bytes, extent_of, extent_bytes, group_of, group_bytes, device_of, device_bytes}
-use Rattle.super_meta.specs.HeaderText.{header_size, header_at, flags_at, lists_size, are_described, header_holds, tables_hold, header_flaw, size_flaw, seal_flaw}
+use Rattle.super_meta.specs.Entries.{rows, is_zero, is_named, is_unset, is_name_field, partition_of, partition_bytes, extent_of, extent_bytes, group_of, group_bytes, device_of, device_bytes}
+use Rattle.super_meta.specs.HeaderText.{header_size, header_at, flags_at, lists_size, are_described, header_holds, tables_hold, size_flaw, seal_flaw}
 use Rattle.super_meta.specs.Contents.{Content, are_named_apart, are_indexed, are_laid, are_known, is_version, tables_size, is_sound}
-use Rattle.super_meta.specs.TableText.{partition_rows, extent_rows, group_rows, device_row, content_in, names_hold, sources_hold, reserved_hold, kinds_hold, entries_flaw, behind, table_flaw, table_of, table_size}
-use Rattle.super_meta.specs.TableBytes.{header_front, descriptor, descriptors, flags_bytes, tables_bytes, header_core, header_back, table_bytes, TableBytes, partition_fits, extent_fits, group_fits, device_fits, fits}
-use Rattle.super_meta.proofs.SealLemmas.{part, seal-front, seal-digest, seal-behind, seal-back, length-sealed}
+use Rattle.super_meta.specs.TableText.{partition_rows, extent_rows, group_rows, device_row, content_in, names_hold, sources_hold, reserved_hold, kinds_hold, entries_flaw, behind, table_of, table_size}
+use Rattle.super_meta.specs.TableBytes.{header_front, descriptor, descriptors, flags_bytes, tables_bytes, header_core, header_back, TableBytes, partition_fits, extent_fits, group_fits, device_fits, fits}
+use Rattle.super_meta.proofs.SealLemmas.{seal-front, seal-digest, seal-behind, seal-back, length-sealed}
 use Rattle.super_meta.proofs.FieldLemmas.{again16, again32}
 use Rattle.super_meta.proofs.NameLemmas.{both, bothly, zeros-pass}
-use Rattle.super_meta.proofs.HeadLemmas.{AreSized, sizedly}
+use Rattle.super_meta.proofs.HeadLemmas.{sizedly}
 use Rattle.super_meta.proofs.WriteLemmas.{length-header_front, length-header_core, length-descriptors, length-zeros}
-use Rattle.super_meta.proofs.AgainLemmas.{fits-lt, later32, IsAgain, partition-again, extent-again, group-again, device-again, is_plain, is_group, is_device, rows-again, values-again, tests-again, length-again, first-all}
+use Rattle.super_meta.proofs.AgainLemmas.{fits-lt, later32, partition-again, extent-again, group-again, device-again, is_plain, is_group, is_device, rows-again, values-again, tests-again, length-again, first-all}
 
 -- the header of a content
 abbrev pub header_of_content : Content → Header
@@ -93,11 +90,16 @@ length-tables c f =
     let e = flat_map extent_bytes c.extents in
     let g = flat_map group_bytes c.groups in
     let d = device_bytes c.device in
-    omega (arith, length-append ((p ++ e) ++ g) d, length-append (p ++ e) g, length-append p e,
-    length-again 52 partition_of partition_bytes is_named partition_fits partition-again c.partitions f.partitions,
-    length-again 24 extent_of extent_bytes is_plain extent_fits extent-again c.extents f.extents,
-    length-again 48 group_of group_bytes is_group group_fits group-again c.groups f.groups,
-    (device-again c.device f.device).len)
+    omega (
+      arith,
+      length-append ((p ++ e) ++ g) d,
+      length-append (p ++ e) g,
+      length-append p e,
+      length-again 52 partition_of partition_bytes is_named partition_fits partition-again c.partitions f.partitions,
+      length-again 24 extent_of extent_bytes is_plain extent_fits extent-again c.extents f.extents,
+      length-again 48 group_of group_bytes is_group group_fits group-again c.groups f.groups,
+      (device-again c.device f.device).len,
+    )
 
 -- what the entries say is the content
 content-again : (c : Content) (rest tables : List ℕ) → AreFit c → AreListed c rest tables → content_in (header_of_content c) tables ≡ c
@@ -121,14 +123,14 @@ unfolding names_hold sources_hold kinds_hold
 entries-again bytes c rest tables f l r =
     let h = header_of_content c in
     let ps : list_all is_named (partition_rows h tables) ≡ true =
-        ap (list_all is_named) (ap (rows 52 (length c.partitions)) l.partitions ∙ rows-again 52 partition_of partition_bytes is_named partition_fits partition-again c.partitions _ f.partitions)
-        ∙ tests-again 52 partition_of partition_bytes is_named partition_fits partition-again c.partitions f.partitions in
+    ap (list_all is_named) (ap (rows 52 (length c.partitions)) l.partitions ∙ rows-again 52 partition_of partition_bytes is_named partition_fits partition-again c.partitions _ f.partitions)
+    ∙ tests-again 52 partition_of partition_bytes is_named partition_fits partition-again c.partitions f.partitions in
     let es : list_all is_plain (extent_rows h tables) ≡ true =
-        ap (list_all is_plain) (ap (rows 24 (length c.extents)) l.extents ∙ rows-again 24 extent_of extent_bytes is_plain extent_fits extent-again c.extents _ f.extents)
-        ∙ tests-again 24 extent_of extent_bytes is_plain extent_fits extent-again c.extents f.extents in
+    ap (list_all is_plain) (ap (rows 24 (length c.extents)) l.extents ∙ rows-again 24 extent_of extent_bytes is_plain extent_fits extent-again c.extents _ f.extents)
+    ∙ tests-again 24 extent_of extent_bytes is_plain extent_fits extent-again c.extents f.extents in
     let gs : list_all is_group (group_rows h tables) ≡ true =
-        ap (list_all is_group) (ap (rows 48 (length c.groups)) l.groups ∙ rows-again 48 group_of group_bytes is_group group_fits group-again c.groups _ f.groups)
-        ∙ tests-again 48 group_of group_bytes is_group group_fits group-again c.groups f.groups in
+    ap (list_all is_group) (ap (rows 48 (length c.groups)) l.groups ∙ rows-again 48 group_of group_bytes is_group group_fits group-again c.groups _ f.groups)
+    ∙ tests-again 48 group_of group_bytes is_group group_fits group-again c.groups f.groups in
     let ds : is_device (device_row h tables) ≡ true = ap is_device l.device ∙ (device-again c.device f.device).passes in
     let e2 = first-all (extent_rows h tables) (is_unset 8) (is_unset 20) es in
     let g2 = first-all (group_rows h tables) is_named (is_unset 36) gs in
@@ -226,17 +228,18 @@ all-zeros n = zeros-pass n
 long-again : (bytes rest : List ℕ) (flags : ℕ) → flags < 2 ^ 32 → drop 128 bytes ≡ (to_le_bytes w32 flags ++ zeros 124) ++ rest → (u32_at 128 bytes ≡ flags) × (list_all is_zero (take 124 (drop 132 bytes)) ≡ true) × (drop 256 bytes ≡ rest)
 long-again bytes rest flags f e =
     let s132 : drop 132 bytes ≡ zeros 124 ++ rest = sym (drop-drop 4 128 bytes) ∙ ap (drop 4) e in
-    let l = length-zeros 124 in
-    (again32 128 flags bytes _ f e,
-    ap (list_all is_zero) (ap (take 124) s132 ∙ take_at (zeros 124) rest 124 l) ∙ all-zeros 124,
-    sym (drop-drop 124 132 bytes) ∙ (ap (drop 124) s132 ∙ drop_at (zeros 124) rest 124 l))
+    let l = length-zeros 124 in (
+      again32 128 flags bytes _ f e,
+      ap (list_all is_zero) (ap (take 124) s132 ∙ take_at (zeros 124) rest 124 l) ∙ all-zeros 124,
+      sym (drop-drop 124 132 bytes) ∙ (ap (drop 124) s132 ∙ drop_at (zeros 124) rest 124 l),
+    )
 
 flags-again : (bytes rest : List ℕ) (c : Content) → c.flags < 2 ^ 32 → is_version c.minor c.flags ≡ true → drop 128 bytes ≡ flags_bytes c ++ rest → AreFlags bytes rest c.minor c.flags
 unfolding flags_bytes
 flags-again bytes rest c f v e =
     ⊎_elim
     (λ k. let a = long-again bytes rest c.flags f (rw k.0 at e) in
-        record { flag = rw k.0 a.0; reserved = rw k.0 a.1; after = rw k.0 a.2 })
+    record { flag = rw k.0 a.0; reserved = rw k.0 a.1; after = rw k.0 a.2 })
     (λ k. record { flag = rw k.0 (no-flags c.minor c.flags k.1 v); reserved = rw k.0 refl; after = rw k.0 (rw k.0 at e) })
     (eqb_tells c.minor 2)
 
@@ -356,15 +359,15 @@ gives bytes c h =
     let own : content_in hc tables ≡ c = content-again c rest tables f ld in
     let en = entries-again bytes c rest tables f ld fl.reserved in
     let sizes : size_flaw bytes hc ≡ None = sizedly (length bytes) (u32_at 0 bytes) (u16_at 4 bytes) c.minor (u32_at 8 bytes) (u32_at 44 bytes) (lists_size hc) (u32_at 120 bytes)
-        (record {
-          len-is = omega (arith, long, low);
-          magic-is = fr.0;
-          major-is = fr.1;
-          minor-is = m;
-          size-is = fr.3;
-          long-is = omega (arith, long, bh.size);
-          more-is = omega (arith, bh.size, bh.numbers.n120);
-        }) in
+    (record {
+      len-is = omega (arith, long, low);
+      magic-is = fr.0;
+      major-is = fr.1;
+      minor-is = m;
+      size-is = fr.3;
+      long-is = omega (arith, long, bh.size);
+      more-is = omega (arith, bh.size, bh.numbers.n120);
+    }) in
     let a : header_holds bytes hs ≡ true = holds-again bytes (lists ++ rest) c e in
     let b : tables_hold bytes hs (u32_at 44 bytes) ≡ true = sums-again bytes lists rest hs (u32_at 44 bytes) bh.digest fl.after (lt ∙ sym bh.size) in
     let d : are_described bytes hc ≡ true = described-again bytes c bh.numbers in
@@ -378,7 +381,7 @@ gives bytes c h =
     let n7 = en.kinds in
     let entries : entries_flaw bytes hc tables ≡ None = rw (n1, n2, n3, n4, n5, n6, n7) refl in
     let whole : (size_flaw bytes hc or_else seal_flaw bytes hc or_else entries_flaw bytes hc tables) ≡ None =
-        ap (λ o. o or_else seal_flaw bytes hc or_else entries_flaw bytes hc tables) sizes ∙ (ap (λ o. o or_else entries_flaw bytes hc tables) seals ∙ entries) in
+    ap (λ o. o or_else seal_flaw bytes hc or_else entries_flaw bytes hc tables) sizes ∙ (ap (λ o. o or_else entries_flaw bytes hc tables) seals ∙ entries) in
     ap (table_by bytes) hd ∙ (ap (λ o. or_flaw o (content_in hc tables)) whole ∙ ap Ok own)
 
 pub one-table : (bytes : List ℕ) (c d : Content) → TableBytes c bytes → TableBytes d bytes → c ≡ d

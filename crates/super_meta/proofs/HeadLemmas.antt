@@ -1,22 +1,16 @@
 -- The fields of a table's header are those that its content is written with.
-use Rattle.std.proofs.Common.{◌≡◌, ℕ, ◌+◌, ◌-◌, ◌*◌, ◌^◌, ◌<◌, ◌≤◌, Bool, true, false, List, [], ◌∷◌, ◌++◌, length, take, drop, replicate, Option, Some, None, refl, sym, ap, ◌∙◌, arith, ⊎_elim}
-use Rattle.std.specs.Prelude.{◌&&◌, ◌||◌, not, nat_lt, nat_le, ◌==◌, bytes_eq, if◌then◌else◌}
-use Rattle.std.specs.List.{list_all}
+use Rattle.std.proofs.Common.{◌≡◌, ℕ, ◌+◌, ◌*◌, ◌≤◌, Bool, true, false, List, [], ◌∷◌, ◌++◌, length, take, drop, Option, Some, None, refl, ap, ◌∙◌, arith}
+use Rattle.std.specs.Prelude.{◌||◌, not, nat_lt, ◌==◌}
 use Rattle.std.specs.Int.{w16, w32, to_le_bytes}
-use Rattle.std.proofs.lemmas.Bool.Decides.{nat_tests, eqb_tells}
-use Rattle.std.proofs.lemmas.List.{length-take-le, length-drop}
+use Rattle.std.proofs.lemmas.Bool.Decides.{nat_tests}
 use Rattle.super_meta.specs.declared.errors.MetaError.{MetaError}
 use Rattle.super_meta.specs.declared.errors.MetaError.TheVariants.{ShortInput, BadMagic, BadVersion, BadSize, BadChecksum, BadDescriptor}
 use Rattle.super_meta.specs.declared.header.Header.{Header}
 use Rattle.super_meta.specs.Flaws.{first_flaw, ◌or_else◌}
 use Rattle.super_meta.specs.Numbers.{u16_at, u32_at, AreBytes}
-use Rattle.super_meta.specs.Sealed.{zeros}
-use Rattle.super_meta.specs.Entries.{is_zero}
-use Rattle.super_meta.specs.HeaderText.{header_size, header_at, flags_at, lists_size, are_described, describes}
+use Rattle.super_meta.specs.HeaderText.{header_size, are_described}
 use Rattle.super_meta.specs.TableBytes.{header_front, descriptor}
-use Rattle.super_meta.proofs.SealLemmas.{part}
-use Rattle.super_meta.proofs.FieldLemmas.{field32}
-use Rattle.super_meta.proofs.NameLemmas.{both, zeros-are}
+use Rattle.super_meta.proofs.NameLemmas.{both}
 use Rattle.super_meta.proofs.EntryLemmas.{step16, step32}
 
 -- two errors of which neither stands

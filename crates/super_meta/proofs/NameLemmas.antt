@@ -1,8 +1,8 @@
 -- The field of a name holds it, and zeros behind it.
-use Rattle.std.proofs.Common.{◌≡◌, ◌≢◌, ℕ, zero, suc, ◌+◌, ◌-◌, ◌<◌, ◌≤◌, Bool, true, false, cond, List, [], ◌∷◌, ◌++◌, length, take, drop, replicate, Option, Some, None, refl, sym, ap, ◌∙◌, arith, length-append, ⊎_elim}
+use Rattle.std.proofs.Common.{◌≡◌, ℕ, zero, suc, ◌+◌, ◌-◌, ◌≤◌, Bool, true, false, cond, List, [], ◌∷◌, ◌++◌, length, take, drop, replicate, Some, None, refl, sym, ap, ◌∙◌, arith, length-append}
 use Rattle.std.specs.Prelude.{◌&&◌, not, nat_lt, nat_le, ◌==◌, unwrap_or, min}
-use Rattle.std.specs.List.{list_all, position, position_or_len, prefix_len}
-use Rattle.std.proofs.lemmas.Bool.Decides.{nat_tests, leb_tells}
+use Rattle.std.specs.List.{list_all, prefix_len}
+use Rattle.std.proofs.lemmas.Bool.Decides.{nat_tests}
 use Rattle.std.proofs.lemmas.List.{take-append-drop, length-take, length-drop, length-replicate, take_min, take_at, drop_at}
 use Rattle.std.proofs.lemmas.List.Sums.{prefix_len-le-length}
 use Rattle.fb_frame.specs.NameText.{is_name, is_name_byte}
@@ -46,7 +46,7 @@ name-back field l h =
     let len : length name ≡ min n (length field) = ap length (name-at field) ∙ length-take n field in
     let front : take (length name) field ≡ name = ap (λ k. take k field) len ∙ (take_min n field ∙ sym (name-at field)) in
     let behind : drop (length name) field ≡ replicate (36 - length name) 0 =
-        zeros-are (drop (length name) field) rest ∙ ap (λ k. replicate k 0) (length-drop (length name) field ∙ ap (λ k. k - length name) l) in
+    zeros-are (drop (length name) field) rest ∙ ap (λ k. replicate k 0) (length-drop (length name) field ∙ ap (λ k. k - length name) l) in
     sym (take-append-drop (length name) field) ∙ (ap (λ t. t ++ drop (length name) field) front ∙ ap (λ t. name ++ t) behind)
 
 name-parts : (name : List ℕ) → is_name name ≡ true → (1 ≤ length name) × (length name ≤ 35) × (list_all is_name_byte name ≡ true)
@@ -57,6 +57,7 @@ name-parts name h =
   where
     low : (n : ℕ) → nat_le 1 n ≡ true → 1 ≤ n
     low n e = grind (arith, nat_tests)
+
     high : (n : ℕ) → nat_le n 35 ≡ true → n ≤ 35
     high n e = grind (arith, nat_tests)
 
@@ -90,5 +91,5 @@ unfolding is_name_field
 field-again name h =
     let own = name-again name h in
     let rest : list_all is_zero (drop (length (name_in (name_field name))) (name_field name)) ≡ true =
-        ap (λ n. list_all is_zero (drop (length n) (name_field name))) own ∙ (ap (list_all is_zero) (drop_at name (replicate (36 - length name) 0) (length name) refl) ∙ zeros-pass (36 - length name)) in
+    ap (λ n. list_all is_zero (drop (length n) (name_field name))) own ∙ (ap (list_all is_zero) (drop_at name (replicate (36 - length name) 0) (length name) refl) ∙ zeros-pass (36 - length name)) in
     bothly (is_name (name_in (name_field name))) (list_all is_zero (drop (length (name_in (name_field name))) (name_field name))) (ap is_name own ∙ h) rest

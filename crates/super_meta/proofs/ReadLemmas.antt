@@ -1,17 +1,13 @@
 -- What the entries of a table say, by what was read of each list.
-use Rattle.std.proofs.Common.{◌≡◌, ℕ, ◌+◌, ◌-◌, ◌*◌, Bool, true, false, List, ◌++◌, length, take, drop, map, Option, Some, None, refl, sym, ap, ◌∙◌, arith}
-use Rattle.std.specs.Prelude.{◌&&◌, if◌then◌else◌}
+use Rattle.std.proofs.Common.{◌≡◌, ℕ, ◌+◌, ◌*◌, Bool, true, false, List, take, drop, map, Some, None, refl, sym, ap, ◌∙◌}
+use Rattle.std.specs.Prelude.{if◌then◌else◌}
 use Rattle.std.specs.List.{list_all}
-use Rattle.std.proofs.Math.Bool.{and-false}
-use Rattle.std.proofs.lemmas.List.{take_rest}
-use Rattle.super_meta.specs.declared.errors.MetaError.{MetaError}
 use Rattle.super_meta.specs.declared.errors.MetaError.TheVariants.{BadName}
 use Rattle.super_meta.specs.declared.header.Header.{Header}
 use Rattle.super_meta.specs.declared.table.BlockDevice.{BlockDevice}
 use Rattle.super_meta.specs.declared.table.Partition.{Partition}
 use Rattle.super_meta.specs.declared.table.Extent.{Extent}
 use Rattle.super_meta.specs.declared.table.Group.{Group}
-use Rattle.super_meta.specs.HeaderText.{lists_size}
 use Rattle.super_meta.specs.Entries.{rows, is_named, is_name_field, partition_of, extent_of, group_of, device_of}
 use Rattle.super_meta.specs.Contents.{Content}
 use Rattle.super_meta.specs.TableText.{partition_rows, extent_rows, group_rows, device_row, content_in, names_hold}

@@ -1,19 +1,19 @@
 -- A table that is read of bytes is the one that they spell.
-use Rattle.std.proofs.Common.{◌≡◌, ℕ, zero, suc, ◌+◌, ◌-◌, ◌*◌, ◌^◌, ◌<◌, ◌≤◌, Bool, true, false, List, [], ◌∷◌, ◌++◌, length, take, drop, map, replicate, Option, Some, None, Result, Ok, Err, refl, sym, ap, ◌∙◌, subst, arith, ⊎_elim}
-use Rattle.std.specs.Prelude.{◌&&◌, ◌||◌, not, nat_lt, nat_le, ◌==◌, bytes_eq, if◌then◌else◌}
+use Rattle.std.proofs.Common.{◌≡◌, ℕ, zero, suc, ◌+◌, ◌-◌, ◌*◌, ◌^◌, ◌<◌, ◌≤◌, Bool, true, false, List, [], ◌∷◌, ◌++◌, length, take, drop, map, replicate, Option, Some, None, Ok, refl, sym, ap, ◌∙◌, subst, arith, ⊎_elim}
+use Rattle.std.specs.Prelude.{◌&&◌, ◌||◌, not, nat_lt, ◌==◌, if◌then◌else◌}
 use Rattle.std.specs.List.{list_all, flat_map}
-use Rattle.std.specs.Int.{w16, w32, to_le_bytes}
+use Rattle.std.specs.Int.{w32, to_le_bytes}
 use Rattle.std.proofs.lemmas.Bool.Decides.{nat_tests, eqb_tells}
-use Rattle.std.proofs.lemmas.List.{length-take-le, length-drop, length-map, drop-drop}
+use Rattle.std.proofs.lemmas.List.{length-take-le, length-drop}
 use Rattle.std.proofs.lemmas.Slice.Eq.{bytes_eq-Decides}
 use Rattle.sha2.specs.Sha256.{sha256}
 use Rattle.super_meta.specs.declared.errors.MetaError.{MetaError}
 use Rattle.super_meta.specs.declared.errors.MetaError.TheVariants.{BadName, BadIndex, Overlap, Unsupported}
 use Rattle.super_meta.specs.declared.header.Header.{Header}
-use Rattle.super_meta.specs.Flaws.{first_flaw, or_flaw, ◌or_else◌}
-use Rattle.super_meta.specs.Numbers.{u16_at, u32_at, u64_at, AreBytes}
+use Rattle.super_meta.specs.Flaws.{first_flaw}
+use Rattle.super_meta.specs.Numbers.{u16_at, u32_at, AreBytes}
 use Rattle.super_meta.specs.Sealed.{zeros, digest_around, sealed}
-use Rattle.super_meta.specs.Entries.{rows, is_zero, is_named, is_unset, is_name_field, name_in, partition_of, partition_bytes, extent_of, extent_bytes, group_of, group_bytes, device_of, device_bytes}
+use Rattle.super_meta.specs.Entries.{rows, is_zero, is_named, is_unset, is_name_field, partition_of, partition_bytes, extent_of, extent_bytes, group_of, group_bytes, device_of}
 use Rattle.super_meta.specs.HeaderText.{header_size, header_at, flags_at, lists_size, are_described, header_holds, tables_hold, header_flaw, size_flaw, seal_flaw}
 use Rattle.super_meta.specs.Contents.{Content, are_named_apart, are_indexed, are_laid, are_known, is_version, tables_size, is_sound}
 use Rattle.super_meta.specs.TableText.{partition_rows, extent_rows, group_rows, device_row, content_in, names_hold, sources_hold, reserved_hold, kinds_hold, entries_flaw, behind, table_flaw, table_of, table_size}
@@ -23,7 +23,7 @@ use Rattle.super_meta.proofs.FieldLemmas.{bytes-drop, bytes-take, field32, below
 use Rattle.super_meta.proofs.NameLemmas.{both, bothly, name-is, zeros-are}
 use Rattle.super_meta.proofs.EntryLemmas.{step32, partition-back, extent-back, group-back, device-back, rows-back, both-all}
 use Rattle.super_meta.proofs.FoundLemmas.{no-flaw, count, size-in}
-use Rattle.super_meta.proofs.HeadLemmas.{none-both, AreSized, sized, seals-hold, front-back, descriptor-back, AreDescribed, described}
+use Rattle.super_meta.proofs.HeadLemmas.{none-both, sized, seals-hold, front-back, descriptor-back, AreDescribed, described}
 
 -- what is right with entries in which there is no flaw
 record AreRight (named apart indexed sources laid known kinds : Bool) : Type 0 where
@@ -100,9 +100,9 @@ unfolding flags_bytes
 flags-back bytes c b l f z =
     ⊎_elim
     (λ h. let long : 256 ≤ length bytes = rw h.0 at l in
-        let flags : u32_at 128 bytes ≡ c.flags = sym (rw h.0 at f) in
-        let rest : list_all is_zero (take 124 (drop 132 bytes)) ≡ true = rw h.0 at z in
-        rw h.0 (flags-long bytes c.flags b long flags rest))
+    let flags : u32_at 128 bytes ≡ c.flags = sym (rw h.0 at f) in
+    let rest : list_all is_zero (take 124 (drop 132 bytes)) ≡ true = rw h.0 at z in
+    rw h.0 (flags-long bytes c.flags b long flags rest))
     (λ h. rw h.0 refl)
     (eqb_tells c.minor 2)
 
@@ -121,9 +121,9 @@ lists-back h tables b l names sources kinds flags own =
     let gs = drop (52 * p + 24 * e) tables in
     let ps = rows-back 52 partition_of partition_bytes is_named partition-back p tables b (omega arith) n2.0 in
     let es = rows-back 24 extent_of extent_bytes (λ r. is_unset 8 r && is_unset 20 r) (λ r c m t. let q = both (is_unset 8 r) (is_unset 20 r) t in extent-back r c m q.0 q.1) e xs (bytes-drop (52 * p) tables b) (omega (arith, length-drop (52 * p) tables))
-        (both-all (extent_rows h tables) (is_unset 8) (is_unset 20) kinds sources) in
+    (both-all (extent_rows h tables) (is_unset 8) (is_unset 20) kinds sources) in
     let grs = rows-back 48 group_of group_bytes (λ r. is_named r && is_unset 36 r) (λ r c m t. let q = both (is_named r) (is_unset 36 r) t in group-back r c m q.0 q.1) g gs (bytes-drop (52 * p + 24 * e) tables b) (omega (arith, length-drop (52 * p + 24 * e) tables))
-        (both-all (group_rows h tables) is_named (is_unset 36) n2.1 flags) in
+    (both-all (group_rows h tables) is_named (is_unset 36) n2.1 flags) in
     let dev = device-back (device_row h tables) (bytes-take 64 (drop (lists_size h) tables) (bytes-drop (lists_size h) tables b)) (length-take-le 64 (drop (lists_size h) tables) (omega (arith, length-drop (lists_size h) tables))) n1.1 own in
     let a1 : take (52 * p) tables ≡ flat_map partition_bytes (map partition_of (partition_rows h tables)) = ap (λ n. take n tables) (omega arith) ∙ sym ps in
     let a2 : take (24 * e) xs ≡ flat_map extent_bytes (map extent_of (extent_rows h tables)) = ap (λ n. take n xs) (omega arith) ∙ sym es in
@@ -207,15 +207,15 @@ back-is bytes tables h e b l more d sum reserved t lists =
     let low = header_size-low h.minor in
     let size = more ∙ sym (tables-size h tables) in
     let digest : take 32 (drop 48 bytes) ≡ sha256 (tables_bytes c) =
-        (bytes_eq-Decides (take 32 (drop 48 bytes)) (sha256 (take (u32_at 44 bytes) (drop hs bytes)))).0 sum
-        ∙ ap sha256 (ap (λ n. take n (drop hs bytes)) more ∙ (ap (take (lists_size h + 64)) (sym t) ∙ lists)) in
+    (bytes_eq-Decides (take 32 (drop 48 bytes)) (sha256 (take (u32_at 44 bytes) (drop hs bytes)))).0 sum
+    ∙ ap sha256 (ap (λ n. take n (drop hs bytes)) more ∙ (ap (take (lists_size h + 64)) (sym t) ∙ lists)) in
     let partitions : u32_at 84 bytes ≡ h.partitions = ap (λ (x : Header). x.partitions) (sym e) in
     let extents : u32_at 96 bytes ≡ h.extents = ap (λ (x : Header). x.extents) (sym e) in
     let groups : u32_at 108 bytes ≡ h.groups = ap (λ (x : Header). x.groups) (sym e) in
     let minor : h.minor ≡ u16_at 6 bytes = ap (λ (x : Header). x.minor) e in
     let flags : h.flags ≡ (if h.minor == 2 then u32_at 128 bytes else 0) = ap (λ (x : Header). x.flags) e ∙ ap (λ n. if n == 2 then u32_at 128 bytes else 0) (sym minor) in
     let descs = descriptors-back bytes h.partitions h.extents h.groups b (omega arith) partitions extents groups d
-        ∙ sym (descriptors-are c h.partitions h.extents h.groups (count partition_of 52 h.partitions tables) (count extent_of 24 h.extents (drop (52 * h.partitions) tables)) (count group_of 48 h.groups (drop (52 * h.partitions + 24 * h.extents) tables))) in
+    ∙ sym (descriptors-are c h.partitions h.extents h.groups (count partition_of 52 h.partitions tables) (count extent_of 24 h.extents (drop (52 * h.partitions) tables)) (count group_of 48 h.groups (drop (52 * h.partitions + 24 * h.extents) tables))) in
     let core = core-back bytes (sha256 (tables_bytes c)) c h.partitions h.extents h.groups b (omega arith) size digest descs in
     let rest = flags-back bytes c b (omega arith) flags reserved in
     part 84 (hs - 128) (hs - 44) 44 128 bytes (omega arith) refl
@@ -284,11 +284,11 @@ takes bytes c b e =
     let head : take hs bytes ≡ sealed (header_front h.minor) (header_back (content_in h tables)) = seals 12 (hs - 44) 44 hs bytes (header_front h.minor) (header_back (content_in h tables)) refl (omega arith) front back digest in
     let size : table_size (content_in h tables) ≡ hs + (lists_size h + 64) = size-in h tables (content_in h tables) refl in
     let spelled : take (table_size (content_in h tables)) bytes ≡ table_bytes (content_in h tables) =
-        ap (λ m. take m bytes) size
-        ∙ (part hs (lists_size h + 64) (hs + (lists_size h + 64)) 0 hs bytes refl (omega arith)
-        ∙ (ap (λ t. t ++ take (lists_size h + 64) (drop hs bytes)) head
-        ∙ (ap (λ t. sealed (header_front h.minor) (header_back (content_in h tables)) ++ t) lists
-        ∙ ap (λ m. sealed (header_front m) (header_back (content_in h tables)) ++ tables_bytes (content_in h tables)) (sym (minor-in h tables))))) in
+    ap (λ m. take m bytes) size
+    ∙ (part hs (lists_size h + 64) (hs + (lists_size h + 64)) 0 hs bytes refl (omega arith)
+    ∙ (ap (λ t. t ++ take (lists_size h + 64) (drop hs bytes)) head
+    ∙ (ap (λ t. sealed (header_front h.minor) (header_back (content_in h tables)) ++ t) lists
+    ∙ ap (λ m. sealed (header_front m) (header_back (content_in h tables)) ++ tables_bytes (content_in h tables)) (sym (minor-in h tables))))) in
     subst (λ (x : Content). TableBytes x bytes) n.1
     (record {
       sound = sound-is h tables bytes b s.minor-is (flags-are bytes) more r.apart-is r.indexed-is r.laid-is r.known-is;

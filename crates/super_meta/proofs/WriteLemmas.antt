@@ -1,10 +1,9 @@
 -- A table written in parts.
-use Rattle.std.proofs.Common.{◌≡◌, ℕ, ◌+◌, ◌-◌, ◌*◌, ◌≤◌, List, [], ◌∷◌, ◌++◌, length, take, drop, refl, sym, ap, ◌∙◌, arith, append_assoc, length-append}
-use Rattle.std.specs.Int.{w16, w32, to_le_bytes}
+use Rattle.std.proofs.Common.{◌≡◌, ℕ, ◌+◌, ◌-◌, ◌≤◌, List, ◌++◌, length, take, drop, refl, sym, ap, ◌∙◌, arith, append_assoc, length-append}
+use Rattle.std.specs.Int.{w32, to_le_bytes}
 use Rattle.std.proofs.lemmas.Bool.Decides.{nat_tests}
 use Rattle.std.proofs.lemmas.List.{take_at, drop_at, take-append-drop, drop-take, length-replicate, length-take-le}
 use Rattle.sha2.specs.Sha256.{sha256}
-use Rattle.sha2.proofs.Facts256.{length-sha256}
 use Rattle.super_meta.specs.Sealed.{zeros, digest_around, sealed}
 use Rattle.super_meta.specs.Contents.{Content, tables_size}
 use Rattle.super_meta.specs.HeaderText.{header_size}

@@ -1,13 +1,12 @@
 -- The header of a table: 128 bytes, or 256 in version 10.2 (liblp metadata_format.h, LpMetadataHeader).
-use Rattle.std.specs.Prelude.{◌≡◌, ℕ, ◌+◌, ◌-◌, ◌*◌, Bool, not, ◌&&◌, ◌||◌, List, [], ◌∷◌, ◌++◌, length, take, drop, nat_lt, nat_le, ◌==◌, bytes_eq, Option, Result, if◌then◌else◌}
-use Rattle.std.specs.Int.{w16, w32, to_le_bytes}
+use Rattle.std.specs.Prelude.{ℕ, ◌+◌, ◌-◌, ◌*◌, Bool, not, ◌&&◌, ◌||◌, List, [], ◌∷◌, length, take, drop, nat_lt, ◌==◌, bytes_eq, Option, Result, if◌then◌else◌}
 use Rattle.sha2.specs.Sha256.{sha256}
 use Rattle.super_meta.specs.declared.errors.MetaError.{MetaError}
 use Rattle.super_meta.specs.declared.errors.MetaError.TheVariants.{ShortInput, BadMagic, BadVersion, BadSize, BadChecksum, BadDescriptor}
 use Rattle.super_meta.specs.declared.header.Header.{Header}
 use Rattle.super_meta.specs.Flaws.{first_flaw, or_flaw, ◌or_else◌}
 use Rattle.super_meta.specs.Numbers.{u16_at, u32_at}
-use Rattle.super_meta.specs.Sealed.{zeros, digest_around}
+use Rattle.super_meta.specs.Sealed.{digest_around}
 
 -- how many bytes a header has
 abbrev pub header_size : ℕ → ℕ

@@ -1,5 +1,5 @@
 -- The image of an empty super: a block with the geometry, and a table (liblp, super_empty.img).
-use Rattle.std.specs.Prelude.{◌≡◌, ℕ, ◌+◌, List, length, take, drop, nat_lt, ◌==◌, Result, Ok, Err, if◌then◌else◌}
+use Rattle.std.specs.Prelude.{ℕ, ◌+◌, List, length, take, drop, nat_lt, ◌==◌, Result, Ok, Err, if◌then◌else◌}
 use Rattle.super_meta.specs.declared.errors.MetaError.{MetaError}
 use Rattle.super_meta.specs.declared.errors.MetaError.TheVariants.{ShortInput, BadSize}
 use Rattle.super_meta.specs.declared.geometry.Geometry.{Geometry}

@@ -1,6 +1,6 @@
 -- A table's bytes: the header and, behind it, the lists of partitions, extents, groups and block
 -- devices (liblp metadata_format.h).
-use Rattle.std.specs.Prelude.{◌≡◌, ℕ, ◌+◌, ◌*◌, Bool, true, not, ◌&&◌, ◌||◌, List, [], ◌∷◌, ◌++◌, map, take, drop, ◌==◌, Option, Result, if◌then◌else◌}
+use Rattle.std.specs.Prelude.{ℕ, ◌+◌, ◌*◌, Bool, true, not, ◌&&◌, ◌||◌, List, [], ◌∷◌, map, take, drop, ◌==◌, Option, Result, if◌then◌else◌}
 use Rattle.std.specs.List.{list_all}
 use Rattle.super_meta.specs.declared.errors.MetaError.{MetaError}
 use Rattle.super_meta.specs.declared.errors.MetaError.TheVariants.{BadName, BadIndex, Overlap, Unsupported}

@@ -2,7 +2,7 @@
 //! table of its logical partitions, read exactly and written in their one spelling.
 #![tactic(auto)]
 
-ghost use Rattle.super_meta.specs.Laws.{GeometryRead, OneGeometry};
+ghost use Rattle.super_meta.specs.Laws.{GeometryRead, OneGeometry, TableRead, OneTable};
 
 mod checks;
 mod entries;
@@ -21,6 +21,8 @@ pub mod writing;
 pub fn laws()
     ensures geometry_read { GeometryRead }
     ensures one_geometry { OneGeometry }
+    ensures table_read { TableRead }
+    ensures one_table { OneTable }
 {}
 
 #[cfg(test)]

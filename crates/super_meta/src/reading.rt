@@ -4,7 +4,8 @@ ghost use Rattle.super_meta.specs.declared.errors.MetaError.{MetaError};
 ghost use Rattle.super_meta.specs.declared.errors.MetaError.TheVariants.{BadName};
 ghost use Rattle.super_meta.specs.HeaderText.{header_size, lists_size};
 ghost use Rattle.super_meta.specs.Entries.{rows, partition_of, extent_of, group_of, device_of};
-ghost use Rattle.super_meta.specs.Contents.{content};
+ghost use Rattle.super_meta.specs.Contents.{Content, content};
+ghost use Rattle.super_meta.specs.TableBytes.{TableBytes};
 ghost use Rattle.super_meta.specs.TableText.{content_in, names_hold, sources_hold, reserved_hold, kinds_hold, behind, partition_rows, extent_rows, group_rows, device_row, entries_flaw, table_of, table_size};
 
 use crate::entries::{are_unset, are_zeros, read_extents, read_groups, read_partitions};
@@ -192,7 +193,7 @@ fn kinds_hold(bytes: &[u8], header: &Header, tables: &[u8]) -> bool
 }
 
 /// The table with which the bytes begin, or the first thing that is wrong with it.
-pub fn read_table(alloc: Global, bytes: &[u8]) -> Result<Table, ReadError>
+fn table_in(alloc: Global, bytes: &[u8]) -> Result<Table, ReadError>
     ensures table { IfOk result (λ table. table_of bytes.now ≡ Ok (content table)) }
     ensures end { IfOk result (λ table. table_size (content table) ≤ length bytes.now) }
     ensures flaw { (flaw : MetaError) → IsErrOf result (ReadError.Bad flaw) → table_of bytes.now ≡ Err flaw }
@@ -211,4 +212,16 @@ pub fn read_table(alloc: Global, bytes: &[u8]) -> Result<Table, ReadError>
         Ok(()) => Ok(table),
         Err(flaw) => Err(ReadError::Bad(flaw)),
     }
+}
+
+/// The table with which the bytes begin, or the first thing that is wrong with it, in the order of the
+/// errors' numbers. What follows the table is ignored.
+pub fn read_table(alloc: Global, bytes: &[u8]) -> Result<Table, ReadError>
+    ensures table { IfOk result (λ table. table_of bytes.now ≡ Ok (content table)) }
+    ensures flaw { (flaw : MetaError) → IsErrOf result (ReadError.Bad flaw) → table_of bytes.now ≡ Err flaw }
+    ensures found { IfOk result (λ table. TableBytes (content table) bytes.now) }
+    ensures only { (flaw : MetaError) → IsErrOf result (ReadError.Bad flaw) → (c : Content) → ¬ TableBytes c bytes.now }
+    ensures end { IfOk result (λ table. table_size (content table) ≤ length bytes.now) }
+{
+    table_in(alloc, bytes)
 }

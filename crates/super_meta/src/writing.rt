@@ -1,7 +1,7 @@
 ghost use Rattle.std.specs.Prelude.{◌≡◌, ℕ, ◌+◌, ◌*◌, ◌^◌, ◌<◌, ◌≤◌, ◌++◌, length, take, drop, IsTrue, OnOk, OnErr, IfOk};
 ghost use Rattle.std.specs.List.{flat_map};
 ghost use Rattle.super_meta.specs.Entries.{name_field, partition_bytes, extent_bytes, group_bytes, device_bytes};
-ghost use Rattle.super_meta.specs.TableBytes.{header_front, descriptor, descriptors, header_core, flags_bytes, tables_bytes, table_bytes};
+ghost use Rattle.super_meta.specs.TableBytes.{header_front, descriptor, descriptors, header_core, flags_bytes, tables_bytes, table_bytes, fits, TableBytes};
 ghost use Rattle.super_meta.specs.TableText.{table_size};
 ghost use Rattle.super_meta.specs.Sealed.{sealed};
 ghost use Rattle.super_meta.specs.HeaderText.{header_size};
@@ -249,6 +249,7 @@ pub fn write_table(table: &Table, buf: &mut [u8]) -> Result<usize, TooLong>
     requires sound { IsTrue (is_sound (content table.now)) }
     ensures size { IfOk result (λ size. size ≡ table_size (content table.now)) }
     ensures bytes { OnOk result (take (table_size (content table.now)) buf.new ≡ table_bytes (content table.now)) }
+    ensures again { OnOk result (IsTrue (fits (content table.now)) → TableBytes (content table.now) buf.new) }
     ensures rest { OnOk result (drop (table_size (content table.now)) buf.new ≡ drop (table_size (content table.now)) buf.old) }
     ensures fits { OnOk result (table_size (content table.now) ≤ length buf.old) }
     ensures long { OnErr result (length buf.old < table_size (content table.now)) }

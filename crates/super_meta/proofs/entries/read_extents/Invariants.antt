@@ -1,4 +1,4 @@
-use Rattle.std.proofs.Common.{◌≡◌, map, true, length, vec_capacity}
+use Rattle.std.proofs.Common.{◌≡◌, map, length, vec_capacity}
 use Rattle.super_meta.specs.Entries.{rows, extent_of}
 use Rattle.super_meta.proofs.entries.read_extents.Given as goal
 

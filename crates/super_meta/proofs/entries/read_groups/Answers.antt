@@ -1,4 +1,4 @@
-use Rattle.std.proofs.Common.{◌≡◌, refl, arith, ◌∙◌}
+use Rattle.std.proofs.Common.{refl, arith, ◌∙◌}
 use Rattle.super_meta.specs.Entries.{group_of}
 use Rattle.super_meta.proofs.RowLemmas.{unnamed, one-named, one-more}
 use Rattle.super_meta.proofs.entries.read_groups.Goals as goal

@@ -1,4 +1,4 @@
-use Rattle.std.proofs.Common.{◌≡◌, Some, None, refl, sym}
+use Rattle.std.proofs.Common.{Some, None, sym}
 use Rattle.std.proofs.lemmas.Result.{err_from_is_err_and}
 use Rattle.super_meta.specs.Contents.{content}
 use Rattle.super_meta.proofs.FoundLemmas.{behind-header, read-ok}
