@@ -1,0 +1,17 @@
+pub mod PutLemmas
+pub mod FieldLemmas
+pub mod SealLemmas
+pub mod GeometryLemmas
+pub mod HeaderLemmas
+pub mod RowLemmas
+pub mod CheckLemmas
+pub mod ReadLemmas
+pub mod FoundLemmas
+pub mod ImageLemmas
+pub mod WriteLemmas
+pub mod NameLemmas
+pub mod EntryLemmas
+pub mod HeadLemmas
+pub mod TakenLemmas
+pub mod AgainLemmas
+pub mod GivenLemmas

@@ -1,0 +1,84 @@
+-- What a table says, and when it is sound (liblp metadata_format.h).
+use Rattle.std.specs.Prelude.{ℕ, ◌+◌, ◌*◌, ◌/◌, ◌%◌, ◌^◌, Bool, true, not, ◌&&◌, ◌||◌, List, [], ◌∷◌, map, length, nat_lt, nat_le, max, min, ◌==◌, bytes_eq, if◌then◌else◌}
+use Rattle.std.specs.List.{list_all, list_any}
+use Rattle.super_meta.specs.declared.table.Partition.{Partition}
+use Rattle.super_meta.specs.declared.table.Extent.{Extent}
+use Rattle.super_meta.specs.declared.table.Group.{Group}
+use Rattle.super_meta.specs.declared.table.BlockDevice.{BlockDevice}
+use Rattle.super_meta.specs.declared.table.Table.{Table}
+
+-- what a table says, apart from where its lists lie in memory
+pub record Content : Type 0 where
+  pub minor : ℕ
+  pub flags : ℕ
+  pub partitions : List Partition
+  pub extents : List Extent
+  pub groups : List Group
+  pub device : BlockDevice
+
+abbrev pub content : Table → Content
+content t = record {
+  minor = t.minor;
+  flags = t.flags;
+  partitions = t.partitions.items;
+  extents = t.extents.items;
+  groups = t.groups.items;
+  device = t.device;
+}
+
+-- no text stands twice
+abbrev pub are_distinct : List (List ℕ) → Bool
+are_distinct [] = true
+are_distinct (x ∷ xs) = not (list_any (λ y. bytes_eq y x) xs) && are_distinct xs
+
+-- no name stands twice among the partitions or among the groups
+unfoldable pub are_named_apart : Content → Bool
+are_named_apart c = are_distinct (map (λ p. p.name) c.partitions) && are_distinct (map (λ g. g.name) c.groups)
+
+-- From a place on, each partition's extents follow those of the one before, up to the last extent.
+abbrev pub take_in_turn : ℕ → ℕ → List Partition → Bool
+take_in_turn extents at [] = at == extents
+take_in_turn extents at (p ∷ partitions) = p.first == at && take_in_turn extents (at + p.count) partitions
+
+-- the partitions take the extents in turn, and their groups are there
+unfoldable pub are_indexed : Content → Bool
+are_indexed c = take_in_turn (length c.extents) 0 c.partitions && list_all (λ p. nat_lt p.group (length c.groups)) c.partitions
+
+-- an extent of at least one sector that lies behind the first logical sector and before the device's end
+abbrev pub lies_in : BlockDevice → Extent → Bool
+lies_in device e = nat_lt 0 e.sectors && nat_le device.first_sector e.target && nat_le (512 * (e.target + e.sectors)) device.size
+
+-- two extents share a sector
+abbrev pub shares : Extent → Extent → Bool
+shares e f = nat_lt (max e.target f.target) (min (e.target + e.sectors) (f.target + f.sectors))
+
+-- no two extents share a sector
+abbrev pub are_apart : List Extent → Bool
+are_apart [] = true
+are_apart (e ∷ extents) = not (list_any (shares e) extents) && are_apart extents
+
+-- each extent lies in the device, and no two share a sector
+unfoldable pub are_laid : Content → Bool
+are_laid c = list_all (lies_in c.device) c.extents && are_apart c.extents
+
+-- The attributes of a partition: bit 0 (readonly), and from minor version 1 on bits 2 (updated) and 3 (disabled).
+abbrev pub are_attributes : ℕ → ℕ → Bool
+are_attributes minor bits = if minor == 0 then nat_lt bits 2 else nat_lt bits 16 && bits / 2 % 2 == 0
+
+-- each partition's attributes are known
+unfoldable pub are_known : Content → Bool
+are_known c = list_all (λ p. are_attributes c.minor p.attributes) c.partitions
+
+-- a table's minor version, 2 at most, and its flags, which only version 2 has
+abbrev pub is_version : ℕ → ℕ → Bool
+is_version minor flags = nat_le minor 2 && (nat_le 2 minor || flags == 0)
+
+-- how many bytes the tables have behind their header
+abbrev pub tables_size : Content → ℕ
+tables_size c = 52 * length c.partitions + 24 * length c.extents + 48 * length c.groups + 64
+
+-- a table that can be written: nothing is wrong with what it says, and its size fits its field
+abbrev pub is_sound : Content → Bool
+is_sound c =
+    are_named_apart c && are_indexed c && are_laid c && are_known c
+    && is_version c.minor c.flags && nat_lt (tables_size c) (2 ^ 32)

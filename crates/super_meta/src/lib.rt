@@ -1,0 +1,29 @@
+//! Super metadata (liblp metadata_format.h, versions 10.0 to 10.2): the geometry of super and the
+//! table of its logical partitions, read exactly and written in their one spelling.
+#![tactic(auto)]
+
+ghost use Rattle.super_meta.specs.Laws.{GeometryRead, OneGeometry, TableRead, OneTable};
+
+mod checks;
+mod entries;
+pub mod errors;
+pub mod geometry;
+mod header;
+pub mod image;
+mod numbers;
+mod put;
+pub mod reading;
+mod sealed;
+pub mod table;
+pub mod writing;
+
+/// The laws of the definitions.
+pub fn laws()
+    ensures geometry_read { GeometryRead }
+    ensures one_geometry { OneGeometry }
+    ensures table_read { TableRead }
+    ensures one_table { OneTable }
+{}
+
+#[cfg(test)]
+mod tests;
