@@ -1,5 +1,5 @@
 -- The tables of a file are those of its geometry and table, of which nothing is wrong.
-use Rattle.std.proofs.Common.{◌≡◌, ℕ, zero, suc, ◌+◌, ◌*◌, ◌<◌, ◌≤◌, Bool, true, false, List, length, take, drop, map, Option, None, Result, Ok, Err, refl, sym, ap, ◌∙◌, subst, arith}
+use Rattle.std.proofs.Common.{◌≡◌, ℕ, zero, suc, ◌+◌, ◌*◌, ◌<◌, ◌≤◌, Bool, true, false, List, length, take, drop, map, Option, Some, None, Result, Ok, Err, refl, sym, ap, ◌∙◌, subst, arith}
 use Rattle.std.specs.Prelude.{◌&&◌, nat_lt, nat_le, ◌==◌, if◌then◌else◌, IfOk}
 use Rattle.std.specs.List.{list_all}
 use Rattle.std.proofs.lemmas.Bool.Decides.{nat_tests}
@@ -17,7 +17,7 @@ use Rattle.super_meta.specs.HeaderText.{header_at, lists_size, header_flaw, size
 use Rattle.super_meta.specs.Contents.{Content, take_in_turn, are_named_apart, are_indexed, are_laid, are_known, is_version}
 use Rattle.super_meta.specs.TableText.{partition_rows, group_rows, device_row, content_in, names_hold, sources_hold, kinds_hold, entries_flaw, behind, table_flaw, table_of, table_size}
 use Rattle.super_meta.specs.ImageText.{block_geometry, image_of}
-use Rattle.super_meta.specs.Held.{tables_read, tables_of_image}
+use Rattle.super_meta.specs.Held.{tables_in, tables_read, tables_of_image}
 use Rattle.super_meta.proofs.NameLemmas.{both, bothly, name-is}
 use Rattle.super_meta.proofs.FoundLemmas.{no-flaw}
 use Rattle.super_meta.proofs.ImageLemmas.{tabled}
@@ -118,3 +118,32 @@ held-by file r h e = let n : nat_le (length file) 131072 ≡ true = grind (arith
 pub told : (o p : Option Tables) (result : Result (Option Tables) Memory) → o ≡ p → IfOk result (λ tables. tables ≡ o) → IfOk result (λ tables. tables ≡ p)
 told o p (Ok tables) e h = h ∙ e
 told o p (Err Memory) e h = tt
+
+-- what stands behind the tables of a file
+pub record AreHeld (tables : Tables) : Type 0 where
+  pub geometry : Geometry
+  pub content : Content
+  pub read : IsRead content
+  pub same : tables_in geometry content ≡ tables
+
+-- the tables of a file are those of a geometry and of a table that was read
+pub held-read : (file : List ℕ) (tables : Tables) → tables_of_image file ≡ Some tables → AreHeld tables
+unfolding tables_of_image
+held-read file tables e = by-length (nat_le (length file) 131072) e
+  where
+    by-extents : (none : Bool) (x : Tables) → (if none then Some x else None) ≡ Some tables → x ≡ tables
+    by-extents true x h = cc
+    by-extents false x h = absurd cc
+
+    by-image : (r : Result (Geometry × Content) MetaError) → image_of file ≡ r → tables_read r ≡ Some tables → AreHeld tables
+    by-image (Ok (g, c)) t h = record {
+      geometry = g;
+      content = c;
+      read = image-read file g c t;
+      same = by-extents (length c.extents == 0) (tables_in g c) h;
+    }
+    by-image (Err f) t h = absurd cc
+
+    by-length : (short : Bool) → (if short then tables_read (image_of file) else None) ≡ Some tables → AreHeld tables
+    by-length true h = by-image (image_of file) refl h
+    by-length false h = absurd cc
