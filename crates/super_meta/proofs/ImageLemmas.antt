@@ -20,11 +20,11 @@ abbrev pub rest_of : List ℕ → List ℕ
 rest_of bytes = take (length bytes - 4096) (drop 4096 bytes)
 
 -- the end of an image
-abbrev ended : List ℕ → Geometry → Content → Result (Geometry × Content) MetaError
+abbrev pub ended : List ℕ → Geometry → Content → Result (Geometry × Content) MetaError
 ended bytes g c = if length bytes == 4096 + table_size c then Ok (g, c) else Err BadSize
 
 -- an image after its block
-abbrev tabled : List ℕ → Geometry → Result Content MetaError → Result (Geometry × Content) MetaError
+abbrev pub tabled : List ℕ → Geometry → Result Content MetaError → Result (Geometry × Content) MetaError
 tabled bytes g r = r then_on λ c. ended bytes g c
 
 after-block : (bytes : List ℕ) (g : Geometry) (r : Result Content MetaError) → Ok g ≡ block_geometry bytes → table_of (rest_of bytes) ≡ r → image_of bytes ≡ tabled bytes g r

@@ -15,3 +15,4 @@ pub mod HeadLemmas
 pub mod TakenLemmas
 pub mod AgainLemmas
 pub mod GivenLemmas
+pub mod HeldLemmas

@@ -26,7 +26,7 @@ use Rattle.super_meta.proofs.FoundLemmas.{no-flaw, count, size-in}
 use Rattle.super_meta.proofs.HeadLemmas.{none-both, sized, seals-hold, front-back, descriptor-back, AreDescribed, described}
 
 -- what is right with entries in which there is no flaw
-record AreRight (named apart indexed sources laid known kinds : Bool) : Type 0 where
+pub record AreRight (named apart indexed sources laid known kinds : Bool) : Type 0 where
   pub named-is : named ≡ true
   pub apart-is : apart ≡ true
   pub indexed-is : indexed ≡ true
@@ -35,7 +35,7 @@ record AreRight (named apart indexed sources laid known kinds : Bool) : Type 0 w
   pub known-is : known ≡ true
   pub kinds-is : kinds ≡ true
 
-abbrev entries_by : (named apart indexed sources laid known kinds : Bool) → Option MetaError
+abbrev pub entries_by : (named apart indexed sources laid known kinds : Bool) → Option MetaError
 entries_by named apart indexed sources laid known kinds =
     first_flaw
     ((not named || not apart, BadName)
@@ -47,7 +47,7 @@ entries_by named apart indexed sources laid known kinds =
 some-none : (e : MetaError) → Some e ≡ None → ⊥
 some-none e h = cc
 
-right : (named apart indexed sources laid known kinds : Bool) → entries_by named apart indexed sources laid known kinds ≡ None → AreRight named apart indexed sources laid known kinds
+pub right : (named apart indexed sources laid known kinds : Bool) → entries_by named apart indexed sources laid known kinds ≡ None → AreRight named apart indexed sources laid known kinds
 right false apart indexed sources laid known kinds h = absurd (some-none BadName h)
 right true false indexed sources laid known kinds h = absurd (some-none BadName h)
 right true true false sources laid known kinds h = absurd (some-none BadIndex h)
@@ -221,7 +221,7 @@ back-is bytes tables h e b l more d sum reserved t lists =
     part 84 (hs - 128) (hs - 44) 44 128 bytes (omega arith) refl
     ∙ (ap (λ x. x ++ take (hs - 128) (drop 128 bytes)) core ∙ ap (λ x. header_core c (sha256 (tables_bytes c)) ++ x) rest)
 
-version-by : (h : Header) (tables bytes : List ℕ) → h.minor ≤ 2 → h.flags ≡ (if h.minor == 2 then u32_at 128 bytes else 0) → is_version (content_in h tables).minor (content_in h tables).flags ≡ true
+pub version-by : (h : Header) (tables bytes : List ℕ) → h.minor ≤ 2 → h.flags ≡ (if h.minor == 2 then u32_at 128 bytes else 0) → is_version (content_in h tables).minor (content_in h tables).flags ≡ true
 unfolding content_in
 version-by h tables bytes m f = ap (is_version h.minor) f ∙ version-is h.minor (u32_at 128 bytes) m
 
@@ -232,7 +232,7 @@ sound-is h tables bytes b m f more apart indexed laid known =
     let small : tables_size (content_in h tables) < 2 ^ 32 = let s = below32 44 bytes b in omega (arith, tables-size h tables, more, s) in
     bothly _ _ (bothly _ _ (bothly _ _ (bothly _ _ (bothly _ _ apart indexed) laid) known) (version-by h tables bytes m f)) (below _ _ small)
 
-flags-are : (bytes : List ℕ) → (header_at bytes).flags ≡ (if (header_at bytes).minor == 2 then u32_at 128 bytes else 0)
+pub flags-are : (bytes : List ℕ) → (header_at bytes).flags ≡ (if (header_at bytes).minor == 2 then u32_at 128 bytes else 0)
 unfolding header_at flags_at
 flags-are bytes = refl
 

@@ -9,3 +9,4 @@ pub mod Laws
 pub mod TableText
 pub mod ImageText
 pub mod TableBytes
+pub mod Held

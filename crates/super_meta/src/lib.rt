@@ -9,6 +9,7 @@ mod entries;
 pub mod errors;
 pub mod geometry;
 mod header;
+pub mod held;
 pub mod image;
 mod numbers;
 mod put;

@@ -1,5 +1,6 @@
 use crate::errors::{MetaError, ReadError};
 use crate::geometry::{Geometry, read_geometry, write_geometry};
+use crate::held::tables_of_image;
 use crate::image::{TableRoom, read_empty_image};
 use crate::reading::read_table;
 use crate::sealed::{digest, digest_around};
@@ -435,5 +436,60 @@ fn reads_into_a_room(rt: HostRuntime) -> Result<(), Fail> {
     assert_eq!(rt; geometry.slots, 2);
     assert_eq!(rt; room.table().partitions.len(), 6);
     assert_eq!(rt; room.table().device.size, 4_194_304);
+    Ok(())
+}
+
+/// An image of a table with extents, under the same geometry.
+fn filled_super(alloc: Global) -> Result<Vec<u8>, AllocError> {
+    let mut file = Vec::from_slice(alloc, &GEOMETRY)?;
+    file.resize(4096, 0)?;
+    let table = filled_table(alloc)?;
+    file.extend_from_slice(&table)?;
+    Ok(file)
+}
+
+#[test]
+fn holds_tables(rt: HostRuntime) -> Result<(), Fail> {
+    let file = empty_super(rt.alloc())?;
+    let tables = tables_of_image(rt.alloc(), &file)?.ok_or("no tables")?;
+    let partitions: [(&[u8], &[u8]); 6] = [
+        (b"system_a", b"main_a"),
+        (b"vendor_a", b"main_a"),
+        (b"product_a", b"main_a"),
+        (b"system_b", b"main_b"),
+        (b"vendor_b", b"main_b"),
+        (b"product_b", b"main_b"),
+    ];
+    assert_eq!(rt; tables.partitions.len(), 6);
+    for (partition, (name, group)) in tables.partitions.as_slice().iter().zip(partitions) {
+        assert_eq!(rt; partition.name.bytes(), name);
+        assert_eq!(rt; partition.group.bytes(), group);
+    }
+    let groups: [(&[u8], u64); 3] = [
+        (b"default", 0),
+        (b"main_a", 1_048_576),
+        (b"main_b", 1_048_576),
+    ];
+    assert_eq!(rt; tables.groups.len(), 3);
+    for (group, (name, limit)) in tables.groups.as_slice().iter().zip(groups) {
+        assert_eq!(rt; group.name.bytes(), name);
+        assert_eq!(rt; group.limit, limit);
+    }
+    assert_eq!(rt; tables.geometry.max_size, 65_536);
+    assert_eq!(rt; tables.device.name.bytes(), b"super".as_slice());
+    assert_eq!(rt; tables.device.alignment, 65_536);
+    Ok(())
+}
+
+#[test]
+fn holds_no_tables(rt: HostRuntime) -> Result<(), Fail> {
+    let filled = filled_super(rt.alloc())?;
+    assert!(rt; image_flaw(rt.alloc(), &filled).is_none());
+    assert!(rt; tables_of_image(rt.alloc(), &filled)?.is_none());
+    let mut file = empty_super(rt.alloc())?;
+    file.resize(131_073, 0)?;
+    assert!(rt; tables_of_image(rt.alloc(), &file)?.is_none());
+    file.resize(4743, 0)?;
+    assert!(rt; tables_of_image(rt.alloc(), &file)?.is_none());
     Ok(())
 }

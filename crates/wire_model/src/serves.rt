@@ -33,8 +33,7 @@ fn settled(alloc: Global, connection: Connection, bytes: &[u8]) -> Result<Connec
 
 /// What a connection gives for these bytes: those that the device writes, the device after, and whether
 /// the connection is closed (fastboot README, TCP). It is the slow program beside the definition, and
-/// works on whole lists. The tables of `update-super` are those that `tables_of` finds in the download:
-/// none in any file, until super metadata are read there, so that each is a bad table.
+/// works on whole lists.
 pub fn serves(alloc: Global, dev: &Dev, bytes: &[u8]) -> Result<Served1, Memory>
     ensures { IfOk result (λ served. served ≡ serves dev.now bytes.now) }
 {

@@ -269,18 +269,17 @@ fn answers_a_slotted_device(rt: HostRuntime) -> Result<(), Fail> {
     Ok(())
 }
 
-/// A handshake, some frames, a frame of so many `z`, and some frames.
+/// A handshake, some frames, a frame of this payload, and some frames.
 fn stream_around(
     alloc: Global,
     before: &str,
-    len: usize,
+    payload: &[u8],
     behind: &str,
 ) -> Result<Vec<u8>, AllocError> {
     let mut bytes = stream(alloc, "FB01", before)?;
-    let head = frame_head(len as u64);
+    let head = frame_head(payload.len() as u64);
     bytes.extend_from_slice(head.as_slice())?;
-    let long = filled(alloc, len, b'z')?;
-    bytes.extend_from_slice(long.as_slice())?;
+    bytes.extend_from_slice(payload)?;
     let more = stream(alloc, "", behind)?;
     bytes.extend_from_slice(more.as_slice())?;
     Ok(bytes)
@@ -308,11 +307,92 @@ fn answers_long_frames(rt: HostRuntime) -> Result<(), Fail> {
             false,
         ),
     ] {
-        let sent = stream_around(alloc, before, len, behind)?;
+        let long = filled(alloc, len, b'z')?;
+        let sent = stream_around(alloc, before, long.as_slice(), behind)?;
         let want = stream(alloc, "FB01", answered)?;
         let served = serves(alloc, &dev, sent.as_slice())?;
         assert_eq!(rt; served.out.as_slice(), want.as_slice(), "{answered}");
         assert_eq!(rt; served.closed, closed, "{answered}");
+    }
+    Ok(())
+}
+
+/// Adds a field of 36 bytes with the name, and numbers of four bytes each.
+fn put_entry(file: &mut Vec<u8>, name: &str, numbers: &[u32]) -> Result<(), AllocError> {
+    let end = file.len().saturating_add(36);
+    file.extend_from_slice(name.as_bytes())?;
+    file.resize(end, 0)?;
+    put_numbers(file, numbers)
+}
+
+fn put_numbers(file: &mut Vec<u8>, numbers: &[u32]) -> Result<(), AllocError> {
+    for number in numbers {
+        file.extend_from_slice(&number.to_le_bytes())?;
+    }
+    Ok(())
+}
+
+/// A geometry of two slots with so much room for each copy of the table, and zeros up to a block.
+fn geometry(alloc: Global, max_size: u32, digest: &[u8]) -> Result<Vec<u8>, AllocError> {
+    let mut file = Vec::from_slice(alloc, b"gDla4\0\0\0")?;
+    file.extend_from_slice(digest)?;
+    put_numbers(&mut file, &[max_size, 2, 4096])?;
+    file.resize(4096, 0)?;
+    Ok(file)
+}
+
+/// Adds a table of three empty partitions in each of two groups of 1,048,576 bytes.
+fn put_table(file: &mut Vec<u8>) -> Result<(), AllocError> {
+    file.extend_from_slice(
+        b"0PLA\x0a\0\0\0\x80\0\0\0\xa2\x97\x22\x8b\xa83\xa1\xfb6\x04\xea\x8c)h\x96\x84\x225:\xfd\xd0\xae:\x9f5\x09M\xd2\x22\xcb\xcc\xe3",
+    )?;
+    file.extend_from_slice(
+        b"\x08\x02\0\0V\xd3~\x97rT.\x84\x1e\x90\x9cN\x11\xd7Y\x81\xdf\x04:uw\x173\x8bx>\xfcX\x9d\xc5`A",
+    )?;
+    put_numbers(file, &[0, 6, 52, 312, 0, 24, 312, 3, 48, 456, 1, 64])?;
+    for (name, group) in [
+        ("system_a", 1),
+        ("vendor_a", 1),
+        ("product_a", 1),
+        ("system_b", 2),
+        ("vendor_b", 2),
+        ("product_b", 2),
+    ] {
+        put_entry(file, name, &[0, 0, 0, group])?;
+    }
+    for (name, limit) in [("default", 0), ("main_a", 1_048_576), ("main_b", 1_048_576)] {
+        put_entry(file, name, &[0, limit, 0])?;
+    }
+    put_numbers(file, &[640, 0, 65_536, 0, 4_194_304, 0])?;
+    put_entry(file, "super", &[0])
+}
+
+#[test]
+fn takes_a_table(rt: HostRuntime) -> Result<(), Fail> {
+    let alloc = rt.alloc();
+    let dev = slotted(alloc, 0)?;
+    let before =
+        "create-logical-partition:system_b:8192\ncreate-logical-partition:system_a:4096\ncreate-logical-partition:scratch:4096\ndownload:00001288";
+    let behind =
+        "update-super:other\nupdate-super:super\ngetvar:partition-size:system_b\ngetvar:partition-size:system_a\ngetvar:partition-size:product_b\ngetvar:partition-size:scratch\nresize-logical-partition:vendor_b:1040384\nresize-logical-partition:vendor_b:1044480";
+    for (max_size, digest, answered) in [
+        (
+            65_536,
+            b"N1\xcfd'TB\xf4\x0e%\xc7r\xa1\x8d\x1f\xcc\xd8\xb1)\x122\xe5\x93\xf6^R/\xc7\xac\x07\xdf\x03".as_slice(),
+            "OKAY\nOKAY\nOKAY\nDATA00001288\nOKAY\nFAILno such partition\nOKAY\nOKAY0x2000\nOKAY0x0\nOKAY0x0\nFAILunknown variable\nOKAY\nFAILgroup full",
+        ),
+        (
+            65_024,
+            b"\xdb\x9f\xde\xca\xdc\x1e\xea\xcb\xcaJgax73m/]\xd3\xcf\xbbCK\xcct\x96\xaf\xdf..H\xb9",
+            "OKAY\nOKAY\nOKAY\nDATA00001288\nOKAY\nFAILno such partition\nFAILbad table\nOKAY0x2000\nOKAY0x1000\nFAILunknown variable\nOKAY0x1000\nFAILno such partition\nFAILno such partition",
+        ),
+    ] {
+        let mut file = geometry(alloc, max_size, digest)?;
+        put_table(&mut file)?;
+        let sent = stream_around(alloc, before, &file, behind)?;
+        let want = stream(alloc, "FB01", answered)?;
+        let served = serves(alloc, &dev, sent.as_slice())?;
+        assert_eq!(rt; served.out.as_slice(), want.as_slice(), "{answered}");
     }
     Ok(())
 }
