@@ -25,6 +25,3 @@ pub fn laws()
     ensures table_read { TableRead }
     ensures one_table { OneTable }
 {}
-
-#[cfg(test)]
-mod tests;

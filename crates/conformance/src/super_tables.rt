@@ -1,13 +1,12 @@
-use crate::errors::{MetaError, ReadError};
-use crate::geometry::{Geometry, read_geometry, write_geometry};
-use crate::held::tables_of_image;
-use crate::image::{TableRoom, read_empty_image};
-use crate::reading::read_table;
-use crate::sealed::{digest, digest_around};
-use crate::writing::write_table;
-use fb_frame::name::Name;
+use dev_disk::digest::digest;
 use std::alloc::{AllocError, Global};
 use std::test::Fail;
+use super_meta::errors::{MetaError, ReadError};
+use super_meta::geometry::{Geometry, read_geometry, write_geometry};
+use super_meta::held::tables_of_image;
+use super_meta::image::{TableRoom, read_empty_image};
+use super_meta::reading::read_table;
+use super_meta::writing::write_table;
 
 /// A geometry of 65,536 bytes for each copy, two slots and blocks of 4,096, with its digest.
 const GEOMETRY: [u8; 52] =
@@ -128,6 +127,15 @@ fn filled_table(alloc: Global) -> Result<Vec<u8>, AllocError> {
     Ok(table)
 }
 
+/// An image of a table with extents, under the same geometry.
+fn filled_super(alloc: Global) -> Result<Vec<u8>, AllocError> {
+    let mut file = Vec::from_slice(alloc, &GEOMETRY)?;
+    file.resize(4096, 0)?;
+    let table = filled_table(alloc)?;
+    file.extend_from_slice(&table)?;
+    Ok(file)
+}
+
 /// What is done to the digests of a spoilt table.
 #[derive(Clone, Copy)]
 enum Seal {
@@ -145,22 +153,27 @@ fn spoil(bytes: &mut [u8], at: usize, new: &[u8]) -> bool {
     true
 }
 
-/// Makes the digests of a table with a header of 128 or 256 bytes anew.
-fn reseal(table: &mut [u8], size: usize, how: Seal) -> bool {
-    if (size != 128 && size != 256) || table.len() < size {
+/// Makes a digest anew that stands amid the bytes that it is of, and counts there as zeros.
+fn reseal(bytes: &mut [u8], at: usize) -> bool {
+    if bytes.len() < 32 || at > bytes.len() - 32 {
+        return false;
+    }
+    bytes[at..at + 32].copy_from_slice(&[0; 32]);
+    let sum = digest(bytes);
+    bytes[at..at + 32].copy_from_slice(&sum);
+    true
+}
+
+/// Makes the digests of a table with a header of so many bytes anew.
+fn reseal_table(table: &mut [u8], size: usize, how: Seal) -> bool {
+    if size < 80 || table.len() < size {
         return false;
     }
     if matches!(how, Seal::Both) {
-        let whole = &table[..];
-        let lists = digest(&whole[size..]);
+        let lists = digest(&table[size..]);
         table[48..80].copy_from_slice(&lists);
     }
-    if !matches!(how, Seal::Kept) {
-        let whole = &table[..];
-        let header = digest_around(&whole[..12], &whole[44..size]);
-        table[12..44].copy_from_slice(&header);
-    }
-    true
+    matches!(how, Seal::Kept) || reseal(&mut table[..size], 12)
 }
 
 /// What `read_table` finds wrong with bytes.
@@ -195,8 +208,7 @@ fn refuses_spoilt_geometries(rt: HostRuntime) {
         let mut bytes = GEOMETRY;
         assert!(rt; spoil(&mut bytes, at, new));
         if anew {
-            let sum = digest_around(&bytes[..8], &bytes[40..]);
-            bytes[8..40].copy_from_slice(&sum);
+            assert!(rt; reseal(&mut bytes, 8));
         }
         assert_eq!(rt; read_geometry(&bytes), Err(want), "byte {at}");
     }
@@ -276,7 +288,7 @@ fn refuses_spoilt_tables(rt: HostRuntime) -> Result<(), Fail> {
         file.extend_from_slice(&good)?;
         assert!(rt; file.len() >= 4096);
         let table = &mut file[4096..];
-        assert!(rt; spoil(table, at, new) && reseal(table, 128, anew));
+        assert!(rt; spoil(table, at, new) && reseal_table(table, 128, anew));
         assert_eq!(rt;
             table_flaw(rt.alloc(), &file[4096..]),
             Some(want),
@@ -364,7 +376,7 @@ fn reads_other_versions(rt: HostRuntime) -> Result<(), Fail> {
         let mut file = empty_super(rt.alloc())?;
         assert!(rt; spoil(&mut file, at, new));
         assert!(rt; file.len() >= 4096);
-        assert!(rt; reseal(&mut file[4096..], size, Seal::Both));
+        assert!(rt; reseal_table(&mut file[4096..], size, Seal::Both));
         assert_eq!(rt; image_flaw(rt.alloc(), &file), want);
         if want.is_none() {
             let (_, table) = read_empty_image(rt.alloc(), &file)?;
@@ -394,12 +406,12 @@ fn reads_other_versions(rt: HostRuntime) -> Result<(), Fail> {
         let mut spoilt = Vec::from_slice(rt.alloc(), &file)?;
         assert!(rt; spoil(&mut spoilt, 4000 + at, new));
         assert!(rt; spoilt.len() >= 4096);
-        assert!(rt; reseal(&mut spoilt[4096..], 256, anew));
+        assert!(rt; reseal_table(&mut spoilt[4096..], 256, anew));
         assert_eq!(rt; image_flaw(rt.alloc(), &spoilt), Some(want), "byte {at}");
     }
     assert!(rt; spoil(&mut file, 4224, b"\x05"));
     assert!(rt; file.len() >= 4096);
-    assert!(rt; reseal(&mut file[4096..], 256, Seal::Header));
+    assert!(rt; reseal_table(&mut file[4096..], 256, Seal::Header));
     let (_, table) = read_empty_image(rt.alloc(), &file)?;
     assert_eq!(rt; table.flags, 5);
     Ok(())
@@ -437,15 +449,6 @@ fn reads_into_a_room(rt: HostRuntime) -> Result<(), Fail> {
     assert_eq!(rt; room.table().partitions.len(), 6);
     assert_eq!(rt; room.table().device.size, 4_194_304);
     Ok(())
-}
-
-/// An image of a table with extents, under the same geometry.
-fn filled_super(alloc: Global) -> Result<Vec<u8>, AllocError> {
-    let mut file = Vec::from_slice(alloc, &GEOMETRY)?;
-    file.resize(4096, 0)?;
-    let table = filled_table(alloc)?;
-    file.extend_from_slice(&table)?;
-    Ok(file)
 }
 
 #[test]
