@@ -1,15 +1,16 @@
 -- What a device tells as a size is read again.
-use Rattle.std.proofs.Common.{◌≡◌, ℕ, zero, suc, ◌+◌, ◌*◌, ◌/◌, ◌%◌, ◌<◌, ◌≤◌, ◌^◌, Bool, true, false, cond, List, [], ◌∷◌, length, drop, Option, Some, None, refl, sym, ap, ◌∙◌, subst, arith, ◌==◌}
+use Rattle.std.proofs.Common.{◌≡◌, ℕ, zero, suc, ◌<◌, ◌≤◌, ◌^◌, false, cond, List, [], ◌∷◌, length, drop, Option, Some, None, refl, sym, ap, ◌∙◌, subst, arith, ◌==◌}
 use Rattle.std.specs.Prelude.{slice_index}
 use Rattle.std.specs.Char.{digit_value}
 use Rattle.std.specs.Str.{IsUtf8}
 use Rattle.std.specs.Str.Parse.{AllDigits, IsNumeral, digits_value, without_leading_plus}
-use Rattle.std.specs.Fmt.{digits, digits_onto, digit_glyph}
+use Rattle.std.specs.Fmt.{digits}
 use Rattle.std.proofs.lemmas.Bool.Decides.{nat_tests}
 use Rattle.std.proofs.lemmas.Option.{none-some}
 use Rattle.std.proofs.lemmas.Str.{IsUtf8-from_ascii}
 use Rattle.std.proofs.lemmas.Fmt.{digits_is_IsNumeral}
 use Rattle.fb_frame.specs.Numbers.{size_text}
+use Rattle.wire_model.proofs.DigitLemmas.{digits-short}
 use Rattle.fb_top.specs.SizeText.{hex_digits}
 
 -- hexadecimal digits are ASCII, and none is a plus
@@ -32,29 +33,6 @@ plain-numeral [] h = refl
 plain-numeral (c ∷ ds) h = ap (λ b. drop (cond b 1 0) (c ∷ ds)) (no-plus c h.1.0)
 
 pub ruleset numerals = (IsUtf8-numeral, plain-numeral)
-
--- a number of 64 bits has at most 16 digits
-top : ℕ → ℕ
-top zero = 1
-top (suc k) = 16 * top k
-
-onto-step : (b : Bool) (f k n : ℕ) (acc : List ℕ) → 0 < k → length (digits_onto f 16 true (n / 16) (digit_glyph true (n % 16) ∷ acc)) ≤ k + length acc → length (cond b (digit_glyph true (n % 16) ∷ acc) (digits_onto f 16 true (n / 16) (digit_glyph true (n % 16) ∷ acc))) ≤ k + length acc
-onto-step true f k n acc h g = omega arith
-onto-step false f k n acc h g = g
-
-onto-short : (f k n : ℕ) (acc : List ℕ) → n < top (suc k) → length (digits_onto f 16 true n acc) ≤ suc k + length acc
-unfolding top
-onto-short zero k n acc h = omega arith
-onto-short (suc f) zero n acc h =
-    let e : (n / 16 == 0) ≡ true = grind (arith, nat_tests) in
-    subst (λ b. length (cond b (digit_glyph true (n % 16) ∷ acc) (digits_onto f 16 true (n / 16) (digit_glyph true (n % 16) ∷ acc))) ≤ 1 + length acc) (sym e) (omega arith)
-onto-short (suc f) (suc k) n acc h =
-    let ih = onto-short f k (n / 16) (digit_glyph true (n % 16) ∷ acc) (omega (arith, h)) in
-    onto-step (n / 16 == 0) f (suc (suc k)) n acc (omega arith) (omega (arith, ih))
-
-digits-short : (n : ℕ) → n < 2 ^ 64 → length (digits 16 true n) ≤ 16
-unfolding digits top
-digits-short n h = onto-short 64 15 n [] h
 
 -- a number that was read of the digits of a size
 pub hex-size : (text ds : List ℕ) (r : Option ℕ) (n : ℕ) → n ≤ 268435456 → Some ds ≡ hex_digits text → (IsNumeral 16 ds → length ds ≤ 16 → digits_value 16 ds < 2 ^ 64 → r ≡ Some (digits_value 16 ds)) → text ≡ size_text n → r ≡ Some n

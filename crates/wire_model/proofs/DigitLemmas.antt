@@ -4,15 +4,15 @@ use Rattle.std.specs.Fmt.{digits, digits_onto, digit_glyph}
 use Rattle.std.proofs.lemmas.Bool.Decides.{nat_tests}
 
 -- 16 to the power of k, the least number of more than k digits
-pub top : ℕ → ℕ
+top : ℕ → ℕ
 top zero = 1
 top (suc k) = 16 * top k
 
-pub onto-step : (b : Bool) (f k n : ℕ) (acc : List ℕ) → 0 < k → length (digits_onto f 16 true (n / 16) (digit_glyph true (n % 16) ∷ acc)) ≤ k + length acc → length (cond b (digit_glyph true (n % 16) ∷ acc) (digits_onto f 16 true (n / 16) (digit_glyph true (n % 16) ∷ acc))) ≤ k + length acc
+onto-step : (b : Bool) (f k n : ℕ) (acc : List ℕ) → 0 < k → length (digits_onto f 16 true (n / 16) (digit_glyph true (n % 16) ∷ acc)) ≤ k + length acc → length (cond b (digit_glyph true (n % 16) ∷ acc) (digits_onto f 16 true (n / 16) (digit_glyph true (n % 16) ∷ acc))) ≤ k + length acc
 onto-step true f k n acc h g = omega arith
 onto-step false f k n acc h g = g
 
-pub onto-short : (f k n : ℕ) (acc : List ℕ) → n < top (suc k) → length (digits_onto f 16 true n acc) ≤ suc k + length acc
+onto-short : (f k n : ℕ) (acc : List ℕ) → n < top (suc k) → length (digits_onto f 16 true n acc) ≤ suc k + length acc
 unfolding top
 onto-short zero k n acc h = omega arith
 onto-short (suc f) zero n acc h =
