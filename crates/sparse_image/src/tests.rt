@@ -318,6 +318,20 @@ fn splits_sparse_files(rt: HostRuntime) -> Result<(), Fail> {
     )
 }
 
+/// The most chunks that a file may have: one fill each, 8,189 in the first piece and 8,188 in the next
+/// ones, and 1,063 in the last.
+#[test]
+fn splits_a_million_chunks(rt: HostRuntime) -> Result<(), Fail> {
+    let mut chunks = Vec::new(rt.alloc());
+    chunks.resize(1_000_000, (0xCAC2, 1, 4))?;
+    let file = sparse_file(rt.alloc(), 512, 1_000_000, chunks.as_slice())?;
+    let mut sizes = Vec::new(rt.alloc());
+    sizes.push(131_064)?;
+    sizes.resize(122, 131_060)?;
+    sizes.push(17_048)?;
+    check_sizes(&rt, rt.alloc(), file.as_slice(), 131_072, sizes.as_slice())
+}
+
 #[test]
 fn writes_pieces(rt: HostRuntime) -> Result<(), Fail> {
     let chunks = [
