@@ -1,5 +1,5 @@
 -- The laws of the definitions.
-use Rattle.std.specs.Prelude.{◌≡◌, ◌<◌, ◌≤◌, ◌^◌, ℕ, List, length, Option, Some, None, Result, Ok, Err}
+use Rattle.std.specs.Prelude.{◌≡◌, ◌<◌, ◌≤◌, ◌*◌, ◌^◌, ℕ, List, length, Option, Some, None, Result, Ok, Err}
 use Rattle.dev_model.specs.Images.{image, over}
 use Rattle.dev_model.specs.declared.cells.Cell.{Cell}
 use Rattle.sparse_image.specs.declared.errors.SparseError.{SparseError}
@@ -16,6 +16,10 @@ Agrees file (Err flaw) found = found ≡ None
 -- the walk finds something wrong exactly where a file has no image, and else keeps its cells
 abbrev pub WalkAgrees : Type 0
 WalkAgrees = (file : List ℕ) → Agrees file (checked file) (image file)
+
+-- what is kept of a file tells how long its image is
+abbrev pub ImageLength : Type 0
+ImageLength = (file : List ℕ) (kept : Kept) → checked file ≡ Ok kept → length (kept_cells kept file) ≡ kept.blocks * kept.block
 
 -- Each piece has an image: the whole image's cells between its blocks, and skips before and behind. What
 -- is kept of a list of bytes has fewer than 2 ^ 32 blocks, as every index has.

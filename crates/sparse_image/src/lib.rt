@@ -2,7 +2,7 @@
 //! and splitting them into pieces that a device with a small download buffer takes.
 #![tactic(auto)]
 
-ghost use Rattle.sparse_image.specs.Laws.{WalkAgrees, PieceImage, PieceLength, PiecesPut, RunsPut, WholeImage};
+ghost use Rattle.sparse_image.specs.Laws.{WalkAgrees, ImageLength, PieceImage, PieceLength, PiecesPut, RunsPut, WholeImage};
 
 pub mod chunk;
 pub mod errors;
@@ -23,6 +23,7 @@ pub mod writes;
 /// The laws of the definitions.
 pub fn laws()
     ensures walk_agrees { WalkAgrees }
+    ensures image_length { ImageLength }
     ensures piece_image { PieceImage }
     ensures piece_length { PieceLength }
     ensures pieces_put { PiecesPut }

@@ -1,5 +1,5 @@
 use Rattle.sparse_image.proofs.WalkLemmas.{walk-agrees}
-use Rattle.sparse_image.proofs.PieceLemmas.{piece-image, piece-length, pieces-put}
+use Rattle.sparse_image.proofs.PieceLemmas.{kept-long, piece-image, piece-length, pieces-put}
 use Rattle.sparse_image.proofs.PutLemmas.{runs-put}
 use Rattle.sparse_image.proofs.WholeLemmas.{whole-image}
 use Rattle.sparse_image.proofs.laws.Goals as goal
@@ -7,6 +7,7 @@ use Rattle.sparse_image.proofs.laws.Goals as goal
 pub returns : goal.returns
 returns c = record {
   walk_agrees = walk-agrees;
+  image_length = kept-long;
   piece_image = piece-image;
   piece_length = piece-length;
   pieces_put = pieces-put;
