@@ -116,7 +116,7 @@ impl Table {
 /// its group's name, and no word of the sectors. None where the file is longer than 131,072 bytes,
 /// isn't such an image, or has an extent (liblp, super_empty.img).
 pub fn tables_of_image(alloc: Global, file: &[u8]) -> Result<Option<Tables>, Memory>
-    ensures { IfOk result (λ tables. tables ≡ tables_of_image file.now) }
+    ensures held { IfOk result (λ tables. tables ≡ tables_of_image file.now) }
 {
     if file.len() > LONGEST {
         return Ok(None);
