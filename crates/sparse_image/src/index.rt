@@ -12,7 +12,7 @@ use crate::pieces::Pieces;
 use crate::reads::read_exact;
 use crate::rest::Rest;
 use crate::source::{Bytes, BytesFault};
-use crate::walk::{HEADER, Header, RAW_LIMIT, check_end, front_chunk, is_sparse, padding};
+use crate::walk::{HEAD, HEADER, Header, RAW_LIMIT, check_end, front_chunk, is_sparse, padding};
 use std::alloc::Global;
 use std::marker::Model;
 
@@ -114,6 +114,18 @@ fn keep(chunks: &mut Vec<Chunk>, chunk: Chunk) -> Result<(), CheckError>
     Ok(())
 }
 
+/// Room for the chunks that a sparse source of `len` bytes may have: as many as its header tells, and no
+/// more than have their own headers behind it.
+fn chunk_room(alloc: Global, len: u64, header: &Header) -> Result<Vec<Chunk>, CheckError>
+    requires long { 28 ≤ len }
+    ensures empty { IfOk result (λ chunks. chunks.items ≡ []) }
+    ensures memory { OnErr result (IsErrOf result CheckError.Memory) }
+{
+    let fronts = (len - HEADER as u64) / HEAD as u64;
+    let room = fronts.min(u64::from(header.chunks)) as usize;
+    Vec::with_capacity(alloc, room).map_err(|_| CheckError::Memory)
+}
+
 /// The kept chunks of a sparse source.
 fn read_chunks<B: Bytes>(
     alloc: Global,
@@ -133,7 +145,7 @@ fn read_chunks<B: Bytes>(
     ensures size { B.size source.new ≡ B.size source.old }
     ensures later { B.faults source.old ≤ B.faults source.new }
 {
-    let mut chunks = Vec::new(alloc);
+    let mut chunks = chunk_room(alloc, len, header)?;
     let mut blocks = header.blocks;
     let mut place = HEADER as u64;
     for _ in 0..header.chunks {

@@ -1,6 +1,7 @@
 ghost use Rattle.std.specs.Prelude.{◌≡◌, ◌^◌, ◌<◌, length, None, Ok};
 ghost use Rattle.sparse_image.specs.Walks.{checked};
 
+use crate::chunk::Chunk;
 use crate::errors::{SparseError, SparseKind};
 use crate::index::{CheckError, check};
 use crate::out::{MemoryOut, Out};
@@ -9,6 +10,7 @@ use crate::runs::Run;
 use crate::source::{Bytes, BytesFault, MemoryBytes};
 use crate::writes::runs;
 use std::alloc::{AllocError, Global};
+use std::mem::size_of;
 use std::process::Abort;
 use std::test::Fail;
 
@@ -316,6 +318,11 @@ fn splits_sparse_files(rt: HostRuntime) -> Result<(), Fail> {
         131_072,
         &[65_588, 65_600, 65_600, 65_588],
     )
+}
+
+#[test]
+fn keeps_a_chunk_in_24_bytes(rt: HostRuntime) {
+    assert_eq!(rt; size_of::<Chunk>(), 24);
 }
 
 /// The most chunks that a file may have: one fill each, 8,189 in the first piece and 8,188 in the next

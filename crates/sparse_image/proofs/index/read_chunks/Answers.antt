@@ -8,7 +8,7 @@ use Rattle.sparse_image.proofs.index.read_chunks.Goals as goal
 pub returns-in_err-chunk-clause-flaw : goal.returns-in_err-chunk-clause-flaw
 returns-in_err-chunk-clause-flaw g c flaw h =
     let header = c.args.header.now in
-    let p = err_from_is_err_and c.from_residual.result c.from_residual.ensures.1 in
+    let p = err_from_is_err_and c.from_residual-in_err-chunk.result c.from_residual-in_err-chunk.ensures.1 in
     let e : c.next_chunk.result ≡ Err (Bad flaw) = cc (p.1, p.2, h, c.in_err-chunk.was) in
     let n : header.chunks - c.loop.counter ≡ suc (header.chunks - (c.loop.counter + 1)) = omega arith in
     told-stops (g.B.Bytes.content c.args.source.now) (λ file. walked header.chunks header.block header.blocks 28 (drop 28 file)) (header.chunks - c.loop.counter) (header.chunks - (c.loop.counter + 1)) header.block c.loop.blocks c.loop.place c.loop.chunks.items flaw n
