@@ -314,6 +314,12 @@ fn reads_an_empty_super(rt: HostRuntime) -> Result<(), Fail> {
         let want = Some(MetaError::ShortInput);
         assert_eq!(rt; image_flaw(rt.alloc(), &file[..len]), want, "{len} bytes");
     }
+    for (at, other) in [(44, b"\x03".as_slice()), (4300, b"\x01")] {
+        let mut spoilt = Vec::from_slice(rt.alloc(), &file)?;
+        assert!(rt; spoil(&mut spoilt, at, other));
+        let want = Some(MetaError::BadChecksum);
+        assert_eq!(rt; image_flaw(rt.alloc(), &spoilt), want, "a bit of byte {at}");
+    }
     let (geometry, table) = read_empty_image(rt.alloc(), &file)?;
     assert_eq!(rt; geometry.max_size, 65_536);
     assert_eq!(rt; (table.minor, table.flags), (0, 0));
