@@ -64,13 +64,14 @@ piece-of : (file : List ℕ) (kept : Kept) (max first last : ℕ) (whole : Bool)
 piece-of file kept max first last true h few low e ends =
     let cells = whole-cells file kept first last h ends.0 ends.1 in
     let l : whole_len kept ≤ max = grind (arith, nat_tests) in
-    record { image = whole-image file kept h ∙ ap (λ (xs : List Cell). Some xs) (sym cells); cells = ap length cells; size = omega (arith, l, (kept-well file kept h).long) }
+    record { image = whole-image file kept h ∙ ap (λ (xs : List Cell). Some xs) (sym cells); cells = ap length cells; size = omega (arith, l, (kept-well file kept h).long); few = λ e. absurd cc }
 piece-of file kept max first last false h few low e ends =
     let fits = ends.fits in
     record {
       image = piece-image file kept max first last h few low fits;
       cells = piece-length file kept first last h (omega (arith, fits.more)) fits.within;
       size = omega (arith, piece-long kept file first last h, fits.size);
+      few = λ e. fits.few;
     }
 
 within-of : (kept : Kept) (max first last : ℕ) (whole : Bool) → 0 < kept.blocks → EndsBy whole kept max first last → (first < last) × (last ≤ kept.blocks)

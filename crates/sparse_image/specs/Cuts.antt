@@ -66,6 +66,7 @@ pub record IsPiece (kept : Kept) (file : List ℕ) (max : ℕ) (part : Part) : T
   pub image : image (part_bytes part file) ≡ Some (part_cells part file)
   pub cells : length (part_cells part file) ≡ length (kept_cells kept file)
   pub size : length (part_bytes part file) ≤ max
+  pub few : part.whole ≡ false → length (piece_chunks part.kept part.first part.last) ≤ 1000000
 
 -- each piece begins where the one before it ended, the first at a block and the last up to the last block
 abbrev pub Follow : ℕ → List Part → ℕ → Type 0
