@@ -42,12 +42,26 @@ Wrote None (Some new) at bytes = ⊥
 Wrote (Some old) None at bytes = ⊥
 Wrote (Some old) (Some new) at bytes = new ≡ written old at bytes
 
--- any bytes were written over the told ones in this range
-abbrev pub WroteInPart : Option (List ℕ) → Option (List ℕ) → ℕ → ℕ → Type 0
-WroteInPart None None at count = Unit {0}
-WroteInPart None (Some new) at count = ⊥
-WroteInPart (Some old) None at count = ⊥
-WroteInPart (Some old) (Some new) at count = DifferWithin at count old new
+-- a relation of told bytes; they are told both times or never
+abbrev pub OnBytes : (List ℕ → List ℕ → Type 0) → Option (List ℕ) → Option (List ℕ) → Type 0
+OnBytes R None None = Unit {0}
+OnBytes R None (Some new) = ⊥
+OnBytes R (Some old) None = ⊥
+OnBytes R (Some old) (Some new) = R old new
+
+-- What a failed write may leave in its range: by the bytes that were there, those that were to be written, and
+-- those that are there then.
+abbrev pub Tears : Type 1
+Tears = List ℕ → List ℕ → List ℕ → Type 0
+
+-- so many bytes of the file from this place on
+abbrev pub copy : List ℕ → ℕ → ℕ → List ℕ
+copy file at size = take size (drop at file)
+
+-- the range holds what a failed write of these bytes may leave, and nothing else changed
+pub record IsTornAt (torn : Tears) (at : ℕ) (bytes old new : List ℕ) : Type 0 where
+  pub differs : DifferWithin at (length bytes) old new
+  pub left : torn (copy old at (length bytes)) bytes (copy new at (length bytes))
 
 -- no told file changed but that of this path
 abbrev pub KeepsOthers : Option Files → Option Files → List ℕ → Type 0

@@ -1,5 +1,6 @@
 pub mod Files
 pub mod Calls
+pub mod Disks
 pub mod MemoryFiles
 pub mod Failing
 pub mod MemoryLaws

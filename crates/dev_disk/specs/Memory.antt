@@ -1,7 +1,8 @@
 -- What a disk in memory tells.
-use Rattle.std.specs.Prelude.{◌≡◌, ℕ, Bool, List, Option, option_map, if◌then◌else◌}
+use Rattle.std.specs.Prelude.{◌≡◌, ℕ, Bool, List, Option, Some, option_map, if◌then◌else◌}
 use Rattle.dev_disk.specs.declared.memory.MemoryDisk.{MemoryDisk}
 use Rattle.dev_disk.specs.Files.{Files}
+use Rattle.dev_disk.specs.Disks.{DiskTold}
 use Rattle.dev_disk.specs.Failing.{fails_next, next_number}
 use Rattle.dev_disk.specs.MemoryFiles.{file_of, path_at, length_at}
 
@@ -28,6 +29,15 @@ memory_calls disk = disk.failures.calls
 -- how many of them failed
 abbrev pub memory_faults : MemoryDisk → ℕ
 memory_faults disk = disk.failures.faults
+
+-- all that it tells
+abbrev pub memory_told : MemoryDisk → DiskTold
+memory_told disk = record {
+  files = Some (memory_files disk);
+  open_path = memory_path disk;
+  open_length = memory_length disk;
+  faults = memory_faults disk;
+}
 
 -- the next call is one of those that fail
 abbrev pub must_fail : MemoryDisk → Bool

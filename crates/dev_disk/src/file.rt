@@ -78,13 +78,13 @@ impl<R> FileDisk<R> {
 
 #[tactic(auto, unfolding(crate::specs::Files::content))]
 impl<R: Files<File = File>> Disk for FileDisk<R> {
-    ghost open_length = { file_length };
+    ghost use Rattle.dev_disk.specs.RealFiles.{file_told};
 
-    ghost files = { λ _. None };
+    ghost lent = { λ _. tt };
 
-    ghost open_path = { λ _. None };
+    ghost told = { file_told };
 
-    ghost faults = { file_faults };
+    ghost torn = { λ old bytes now. now ≡ old };
 
     fn open(&mut self, path: &str) -> Result<Option<u64>, DiskFault> {
         let opened = count(&mut self.faults, open_file(&self.runtime, path))?;

@@ -3,7 +3,7 @@ ghost use Rattle.std.specs.Option.{ForSome};
 ghost use Rattle.std.specs.Result.{IsErrOf};
 ghost use Rattle.fb_frame.specs.Causes.{HasCause, Rose};
 ghost use Rattle.dev_disk.specs.Calls.{OpensLength, OpensPath};
-ghost use Rattle.dev_disk.specs.Files.{zeros, content, IsInside, IsRead, Wrote, WroteInPart, KeepsUnopened};
+ghost use Rattle.dev_disk.specs.Files.{zeros, content, IsInside, IsRead, Wrote, KeepsUnopened};
 ghost use Rattle.dev_disk.specs.MemoryFiles.{IsFirst};
 
 use crate::disk::{CreateError, Disk, DiskFault};
@@ -86,16 +86,15 @@ impl MemoryDisk {
 }
 
 impl Disk for MemoryDisk {
-    ghost use Rattle.dev_disk.specs.Memory.{memory_files, memory_path, memory_length, memory_faults, must_fail, Counts, KeepsFiles};
+    ghost use Rattle.dev_disk.specs.Memory.{memory_files, memory_path, memory_length, memory_faults};
+    ghost use Rattle.dev_disk.specs.Memory.{memory_told, must_fail, Counts, KeepsFiles};
     ghost use Rattle.dev_disk.specs.MemoryLaws.{agree};
 
-    ghost open_length = { memory_length };
+    ghost lent = { λ _. tt };
 
-    ghost files = { λ disk. Some (memory_files disk) };
+    ghost told = { memory_told };
 
-    ghost open_path = { memory_path };
-
-    ghost faults = { memory_faults };
+    ghost torn = { λ old bytes now. now ≡ old };
 
     fn open(&mut self, path: &str) -> Result<Option<u64>, DiskFault>
         ensures fails { is_err result ≡ must_fail self.old }
@@ -161,7 +160,6 @@ impl Disk for MemoryDisk {
         ensures counts { Counts self.old self.new }
         ensures kept { OnErr result (KeepsFiles self.old self.new) }
         ensures wrote { OnOk result (Wrote (content (Some (memory_files self.old)) (memory_path self.old)) (content (Some (memory_files self.new)) (memory_path self.new)) at bytes.now) }
-        ensures in_part { OnErr result (WroteInPart (content (Some (memory_files self.old)) (memory_path self.old)) (content (Some (memory_files self.new)) (memory_path self.new)) at (length bytes.now)) }
         ensures length { memory_length self.new ≡ memory_length self.old }
         ensures path { memory_path self.new ≡ memory_path self.old }
         ensures others { KeepsUnopened (Some (memory_files self.old)) (Some (memory_files self.new)) (memory_path self.old) }

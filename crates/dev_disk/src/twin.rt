@@ -1,6 +1,8 @@
-ghost use Rattle.std.specs.Prelude.{◌≡◌, ◌≤◌, length, OnOk, OnErr};
-ghost use Rattle.fb_frame.specs.Causes.{HasCause};
-ghost use Rattle.dev_disk.specs.Files.{content, IsInside, IsRead, Wrote, WroteInPart, KeepsUnopened};
+ghost use Rattle.std.specs.Prelude.{◌≡◌, length, OnOk, OnErr};
+ghost use Rattle.fb_frame.specs.Causes.{Rose};
+ghost use Rattle.dev_disk.specs.Files.{IsInside, IsRead};
+ghost use Rattle.dev_disk.specs.Disks.{open_bytes, FilesKept, Writes};
+ghost use Rattle.dev_disk.specs.Twins.{FailsCopy};
 
 use crate::disk::{Disk, DiskFault};
 
@@ -13,15 +15,11 @@ pub struct Twin {
 }
 
 /// Writes the bytes, and waits until they are kept.
-
 fn write_synced<K: Disk>(disk: &mut K, at: u64, bytes: &[u8]) -> Result<(), DiskFault>
-    requires inside { IsInside (K.open_length disk.old) at (length bytes.now) }
-    ensures wrote { OnOk result (Wrote (content (K.files disk.old) (K.open_path disk.old)) (content (K.files disk.new) (K.open_path disk.new)) at bytes.now) }
-    ensures in_part { OnErr result (WroteInPart (content (K.files disk.old) (K.open_path disk.old)) (content (K.files disk.new) (K.open_path disk.new)) at (length bytes.now)) }
-    ensures length { K.open_length disk.new ≡ K.open_length disk.old }
-    ensures path { K.open_path disk.new ≡ K.open_path disk.old }
-    ensures others { KeepsUnopened (K.files disk.old) (K.files disk.new) (K.open_path disk.old) }
-    ensures cause { HasCause (K.faults disk.old) (K.faults disk.new) result }
+    requires inside { IsInside (K.told disk.old).open_length at (length bytes.now) }
+    ensures writes { OnOk result (Writes (K.told disk.old) (K.told disk.new) at bytes.now) }
+    ensures fails { OnErr result (FailsCopy K.torn (K.told disk.old) (K.told disk.new) at bytes.now) }
+    ensures same { K.lent disk.new ≡ K.lent disk.old }
 {
     let Ok(()) = disk.write_at(at, bytes) else {
         return Err(DiskFault);
@@ -33,19 +31,22 @@ fn write_synced<K: Disk>(disk: &mut K, at: u64, bytes: &[u8]) -> Result<(), Disk
 }
 
 impl Twin {
-    ghost use Rattle.dev_disk.specs.Twins.{IsTwin, copy_place, WroteBoth, WroteOne, Told};
+    ghost use Rattle.dev_disk.specs.Twins.{IsTwin, copy_place, WritesTwin, FailsTwin};
+
+    /// The place of the first copy, or of the second one where `which` is true.
+    fn place(&self, which: bool) -> u64
+        ensures { result ≡ copy_place self.now which }
+    {
+        if which { self.second } else { self.first }
+    }
 
     /// Writes the block over the first copy and syncs, and then over the second and syncs.
-
     pub fn write<K: Disk>(&self, disk: &mut K, block: &[u8]) -> Result<(), DiskFault>
-        requires twin { IsTwin self.now (K.open_length disk.old) }
+        requires twin { IsTwin self.now (K.told disk.old).open_length }
         requires size { length block.now ≡ self.now.size }
-        ensures both { OnOk result (Told (WroteBoth self.now block.now) (content (K.files disk.old) (K.open_path disk.old)) (content (K.files disk.new) (K.open_path disk.new))) }
-        ensures one { OnErr result (Told (WroteOne self.now block.now) (content (K.files disk.old) (K.open_path disk.old)) (content (K.files disk.new) (K.open_path disk.new))) }
-        ensures length { K.open_length disk.new ≡ K.open_length disk.old }
-        ensures path { K.open_path disk.new ≡ K.open_path disk.old }
-        ensures others { KeepsUnopened (K.files disk.old) (K.files disk.new) (K.open_path disk.old) }
-        ensures cause { HasCause (K.faults disk.old) (K.faults disk.new) result }
+        ensures writes { OnOk result (WritesTwin self.now block.now (K.told disk.old) (K.told disk.new)) }
+        ensures fails { OnErr result (FailsTwin K.torn self.now block.now (K.told disk.old) (K.told disk.new)) }
+        ensures same { K.lent disk.new ≡ K.lent disk.old }
     {
         let Ok(()) = write_synced(disk, self.first, block) else {
             return Err(DiskFault);
@@ -56,6 +57,24 @@ impl Twin {
         Ok(())
     }
 
+    /// Writes the block over the first copy, or over the second one where `which` is true, and syncs.
+    pub fn write_copy<K: Disk>(
+        &self,
+        disk: &mut K,
+        which: bool,
+        block: &[u8],
+    ) -> Result<(), DiskFault>
+        requires twin { IsTwin self.now (K.told disk.old).open_length }
+        requires size { length block.now ≡ self.now.size }
+        ensures writes { OnOk result
+            (Writes (K.told disk.old) (K.told disk.new) (copy_place self.now which) block.now) }
+        ensures fails { OnErr result
+            (FailsCopy K.torn (K.told disk.old) (K.told disk.new) (copy_place self.now which) block.now) }
+        ensures same { K.lent disk.new ≡ K.lent disk.old }
+    {
+        write_synced(disk, self.place(which), block)
+    }
+
     /// Reads the first copy, or the second one where `which` is true.
     pub fn read<K: Disk>(
         &self,
@@ -63,16 +82,15 @@ impl Twin {
         which: bool,
         block: &mut [u8],
     ) -> Result<(), DiskFault>
-        requires twin { IsTwin self.now (K.open_length disk.old) }
+        requires twin { IsTwin self.now (K.told disk.old).open_length }
         requires size { length block.old ≡ self.now.size }
-        ensures read { OnOk result (IsRead (content (K.files disk.old) (K.open_path disk.old)) (copy_place self.now which) block.new) }
-        ensures length { K.open_length disk.new ≡ K.open_length disk.old }
-        ensures path { K.open_path disk.new ≡ K.open_path disk.old }
-        ensures files { K.files disk.new ≡ K.files disk.old }
-        ensures cause { HasCause (K.faults disk.old) (K.faults disk.new) result }
+        ensures read { OnOk result
+            (IsRead (open_bytes (K.told disk.old)) (copy_place self.now which) block.new) }
+        ensures kept { FilesKept (K.told disk.old) (K.told disk.new) }
+        ensures cause { OnErr result (Rose (K.told disk.old).faults (K.told disk.new).faults) }
+        ensures same { K.lent disk.new ≡ K.lent disk.old }
     {
-        let at = if which { self.second } else { self.first };
-        disk.read_at(at, block)?;
+        disk.read_at(self.place(which), block)?;
         Ok(())
     }
 }
@@ -102,13 +120,13 @@ mod tests {
     }
 
     impl<K: Disk> Disk for Recorder<K> {
-        ghost open_length = { λ recorder. K.open_length recorder.disk };
+        ghost Lent = { K.Lent };
 
-        ghost files = { λ recorder. K.files recorder.disk };
+        ghost lent = { λ recorder. K.lent recorder.disk };
 
-        ghost open_path = { λ recorder. K.open_path recorder.disk };
+        ghost told = { λ recorder. K.told recorder.disk };
 
-        ghost faults = { λ recorder. K.faults recorder.disk };
+        ghost torn = { K.torn };
 
         fn open(&mut self, path: &str) -> Result<Option<u64>, DiskFault> {
             let _ = self.calls.push(Call::Open);

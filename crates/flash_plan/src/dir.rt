@@ -34,6 +34,11 @@ pub trait ProductDir {
     /// The count of faults.
     ghost faults: { Self → ℕ };
 
+    /// What no call changes, as which folder is borrowed.
+    ghost Kept: { Type 0 } = { Unit {0} };
+
+    ghost kept: { Self → Self.Kept };
+
     /// Turns to the folder of this path, and answers whether it is there.
     fn enter(&mut self, alloc: Global, path: &str) -> Result<bool, EnterError>
         ensures entered { IfOk result (λ there. entered self.new ≡ there) }
@@ -41,6 +46,7 @@ pub trait ProductDir {
         ensures there { IfOk result (λ there. IsThere (told_path self.old) path.now there) }
         ensures path { told_path self.new ≡ told_path self.old }
         ensures files { files self.new ≡ files self.old }
+        ensures kept { Self.kept self.new ≡ Self.kept self.old }
         ensures later { faults self.old ≤ faults self.new }
         ensures cause { IsErrOf result EnterError.Dir → Rose (faults self.old) (faults self.new) };
 
@@ -51,6 +57,7 @@ pub trait ProductDir {
         ensures entered { entered self.new ≡ entered self.old }
         ensures path { told_path self.new ≡ told_path self.old }
         ensures files { files self.new ≡ files self.old }
+        ensures kept { Self.kept self.new ≡ Self.kept self.old }
         ensures cause { HasCause (faults self.old) (faults self.new) result };
 
     /// Reads bytes of a file from this place on into the front of the buffer, and answers how many.
@@ -63,10 +70,13 @@ pub trait ProductDir {
         ensures entered { entered self.new ≡ entered self.old }
         ensures path { told_path self.new ≡ told_path self.old }
         ensures files { files self.new ≡ files self.old }
+        ensures kept { Self.kept self.new ≡ Self.kept self.old }
         ensures cause { HasCause (faults self.old) (faults self.new) result };
 }
 
 impl<D: ProductDir> ProductDir for &mut D {
+    ghost use Rattle.std.specs.Borrow.{GName};
+
     ghost told_path = { λ dir. D.told_path dir.now };
 
     ghost files = { λ dir. D.files dir.now };
@@ -74,6 +84,10 @@ impl<D: ProductDir> ProductDir for &mut D {
     ghost entered = { λ dir. D.entered dir.now };
 
     ghost faults = { λ dir. D.faults dir.now };
+
+    ghost Kept = { GName × D.Kept };
+
+    ghost kept = { λ dir. (dir.ghost_name, D.kept dir.now) };
 
     fn enter(&mut self, alloc: Global, path: &str) -> Result<bool, EnterError> {
         (**self).enter(alloc, path)

@@ -44,6 +44,8 @@ impl<R: Files> ProductDir for FolderDir<R> {
 
     ghost faults = { λ dir. dir.faults };
 
+    ghost kept = { λ dir. tt };
+
     fn enter(&mut self, alloc: Global, path: &str) -> Result<bool, EnterError> {
         self.folder = None;
         let Ok(folder) = FolderPath::new(alloc, path) else {

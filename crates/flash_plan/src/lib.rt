@@ -2,6 +2,7 @@
 #![tactic(auto)]
 
 pub mod dir;
+pub mod dir_bytes;
 pub mod folder_dir;
 mod folder_path;
 pub mod memory_dir;

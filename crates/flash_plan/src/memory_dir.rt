@@ -117,6 +117,8 @@ impl ProductDir for MemoryDir {
 
     ghost faults = { λ dir. dir.faults };
 
+    ghost kept = { λ dir. tt };
+
     fn enter(&mut self, _alloc: Global, path: &str) -> Result<bool, EnterError>
         ensures entered { IfOk result (λ there. self.new.entered ≡ there) }
         ensures there { IfOk result (λ there. IsThere (Some self.old.path) path.now there) }

@@ -30,6 +30,7 @@ pub fn read_all<D: ProductDir>(dir: &mut D, name: &[u8], buf: &mut [u8]) -> Resu
     ensures entered { D.entered dir.new ≡ D.entered dir.old }
     ensures path { D.told_path dir.new ≡ D.told_path dir.old }
     ensures files { D.files dir.new ≡ D.files dir.old }
+    ensures kept { D.kept dir.new ≡ D.kept dir.old }
     ensures cause { HasCause (D.faults dir.old) (D.faults dir.new) result }
 {
     let mut at = 0;
@@ -55,6 +56,7 @@ pub fn read_file<D: ProductDir>(
     ensures entered { D.entered dir.new ≡ D.entered dir.old }
     ensures path { D.told_path dir.new ≡ D.told_path dir.old }
     ensures files { D.files dir.new ≡ D.files dir.old }
+    ensures kept { D.kept dir.new ≡ D.kept dir.old }
     ensures later { D.faults dir.old ≤ D.faults dir.new }
 {
     let size = match dir.size(name) {

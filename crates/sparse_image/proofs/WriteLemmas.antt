@@ -7,7 +7,7 @@ use Rattle.std.proofs.lemmas.List.Concat.{flat_map-append}
 use Rattle.std.proofs.lemmas.List.Sums.{sum_by-cons, sum_by-append, sum_by_push}
 use Rattle.std.proofs.lemmas.List.{append_assoc, append-nil, take-append-le, length-take-le}
 use Rattle.std.proofs.Math.Seq.{take-append-add}
-use Rattle.sparse_image.specs.Outside.{Grew, GrewInPart, HasRoom, Fell}
+use Rattle.sparse_image.specs.Outside.{Grew, GrewInPart, GrewOrLost, HasRoom, Fell}
 use Rattle.sparse_image.specs.declared.chunk.Chunk.{Chunk}
 use Rattle.sparse_image.specs.Walks.{chunk_len}
 use Rattle.sparse_image.specs.Puts.{Puts, PutsInPart, padded_part, padded_chunk, padded_chunks}
@@ -25,6 +25,19 @@ grew-then (Some a) None c xs ys p q = absurd p
 grew-then (Some a) (Some b) None xs ys p q = absurd q
 grew-then (Some a) (Some b) (Some c) xs ys p q = q ∙ ap (λ (zs : List ℕ). zs ++ ys) p ∙ append_assoc a xs ys
 
+lost-none : (a : Option (List ℕ)) → GrewOrLost a a []
+lost-none None = tt
+lost-none (Some xs) = sym (append-nil xs)
+
+-- bytes that were put whole, and then some that were put or lost
+lost-then : (a b c : Option (List ℕ)) (xs ys : List ℕ) → Grew a b xs → GrewOrLost b c ys → GrewOrLost a c (xs ++ ys)
+lost-then None None None xs ys p q = tt
+lost-then None None (Some c) xs ys p q = absurd q
+lost-then None (Some b) c xs ys p q = absurd p
+lost-then (Some a) None c xs ys p q = absurd p
+lost-then (Some a) (Some b) None xs ys p q = tt
+lost-then (Some a) (Some b) (Some c) xs ys p q = q ∙ ap (λ (zs : List ℕ). zs ++ ys) p ∙ append_assoc a xs ys
+
 pub fell-none : (a : Option ℕ) → Fell a a 0
 fell-none None = tt
 fell-none (Some n) = omega arith
@@ -39,13 +52,13 @@ fell-then (Some a) (Some b) (Some c) n m p q = omega arith
 
 -- what is left fits
 pub room-left : (a b : Option ℕ) (all n m : ℕ) → HasRoom a all → Fell a b n → n + m ≤ all → HasRoom b m
-room-left None None all n m h p l = tt
+room-left None None all n m h p l = absurd h
 room-left None (Some b) all n m h p l = absurd p
 room-left (Some a) None all n m h p l = absurd p
 room-left (Some a) (Some b) all n m h p l = omega arith
 
 pub room-first : (a : Option ℕ) (all n : ℕ) → HasRoom a all → n ≤ all → HasRoom a n
-room-first None all n h l = tt
+room-first None all n h l = absurd h
 room-first (Some a) all n h l = omega arith
 
 -- told facts
@@ -101,7 +114,7 @@ module _ (o : Option (List ℕ)) (f g : List ℕ → List ℕ) (n m : ℕ) (a b 
     bytes = p.bytes ++ q.bytes;
     short = omega (arith, length-append p.bytes q.bytes, p.long, q.short);
     wanted = front-then o f g p.bytes q.bytes p.wanted q.wanted;
-    grew = grew-then a b c p.bytes q.bytes p.grew q.grew;
+    grew = lost-then a b c p.bytes q.bytes p.grew q.grew;
   }
 
   pub part-puts : PutsInPart o f n a b → PutsInPart o (λ file. f file ++ g file) (n + m) a b
@@ -116,9 +129,12 @@ module _ (o : Option (List ℕ)) (f g : List ℕ → List ℕ) (n m : ℕ) (a b 
 pub puts-all : (o : Option (List ℕ)) (f : List ℕ → List ℕ) (n : ℕ) (xs : List ℕ) (a b : Option (List ℕ)) → length xs ≡ n → IfSome o (λ file. xs ≡ f file) → Grew a b xs → Puts o f n a b
 puts-all o f n xs a b l w g = record { bytes = xs; long = l; wanted = w; grew = g }
 
+part-by : (o : Option (List ℕ)) (f : List ℕ → List ℕ) (n : ℕ) (a b : Option (List ℕ)) → 0 < n → GrewOrLost a b [] → PutsInPart o f n a b
+part-by None f n a b h g = record { bytes = []; short = h; wanted = tt; grew = g }
+part-by (Some file) f n a b h g = record { bytes = []; short = h; wanted = refl; grew = g }
+
 pub part-none : (o : Option (List ℕ)) (f : List ℕ → List ℕ) (n : ℕ) (a : Option (List ℕ)) → 0 < n → PutsInPart o f n a a
-part-none None f n a h = record { bytes = []; short = h; wanted = tt; grew = grew-none a }
-part-none (Some file) f n a h = record { bytes = []; short = h; wanted = refl; grew = grew-none a }
+part-none o f n a h = part-by o f n a a h (lost-none a)
 
 front-told : (o : Option (List ℕ)) (f : List ℕ → List ℕ) (k : ℕ) (xs : List ℕ) → k ≤ length xs → IfSome o (λ file. xs ≡ f file) → IfSome o (λ file. take k xs ≡ take (length (take k xs)) (f file))
 front-told None f k xs l w = tt
@@ -127,7 +143,7 @@ front-told (Some file) f k xs l w = ap (take k) w ∙ ap (λ (j : ℕ). take j (
 pub puts-front : (o : Option (List ℕ)) (f : List ℕ → List ℕ) (n : ℕ) (xs : List ℕ) (a b : Option (List ℕ)) → length xs ≡ n → 0 < n → IfSome o (λ file. xs ≡ f file) → GrewInPart a b xs → PutsInPart o f n a b
 puts-front o f n xs None None l h w g = part-none o f n None h
 puts-front o f n xs None (Some b) l h w g = absurd g
-puts-front o f n xs (Some a) None l h w g = absurd g
+puts-front o f n xs (Some a) None l h w g = part-by o f n (Some a) None h tt
 puts-front o f n xs (Some a) (Some b) l h w (k, s, e) =
     let long = length-take-le k xs (omega arith) in
     record { bytes = take k xs; short = omega (arith, long, s); wanted = front-told o f k xs (omega arith) w; grew = e }
@@ -249,7 +265,7 @@ part-behind None None None xs ys p q = tt
 part-behind None None (Some c) xs ys p q = absurd q
 part-behind None (Some b) c xs ys p q = absurd p
 part-behind (Some a) None c xs ys p q = absurd p
-part-behind (Some a) (Some b) None xs ys p q = absurd q
+part-behind (Some a) (Some b) None xs ys p q = tt
 part-behind (Some a) (Some b) (Some c) xs ys p (k, s, e) = (
   length xs + k,
   omega (arith, s, length-append xs ys),

@@ -17,19 +17,27 @@ Grew None None bytes = Unit {0}
 Grew (Some before) None bytes = ⊥
 Grew None (Some now) bytes = ⊥
 
--- what was put grew by a front of the bytes that lacks at least one of them, where it is told
+-- What was put grew by a front of the bytes that lacks at least one of them, where it is told. An out may
+-- tell no more from its first fault on.
 abbrev pub GrewInPart : Option (List ℕ) → Option (List ℕ) → List ℕ → Type 0
 GrewInPart (Some before) (Some now) bytes = (n : ℕ) × (n < length bytes) × (now ≡ before ++ take n bytes)
 GrewInPart None None bytes = Unit {0}
-GrewInPart (Some before) None bytes = ⊥
+GrewInPart (Some before) None bytes = Unit {0}
 GrewInPart None (Some now) bytes = ⊥
 
--- so many bytes fit, where the room is told
+-- what was put grew by these bytes, or is told no more
+abbrev pub GrewOrLost : Option (List ℕ) → Option (List ℕ) → List ℕ → Type 0
+GrewOrLost (Some before) (Some now) bytes = now ≡ before ++ bytes
+GrewOrLost None None bytes = Unit {0}
+GrewOrLost (Some before) None bytes = Unit {0}
+GrewOrLost None (Some now) bytes = ⊥
+
+-- so many bytes fit; an out without room takes nothing any more
 abbrev pub HasRoom : Option ℕ → ℕ → Type 0
 HasRoom (Some room) n = n ≤ room
-HasRoom None n = Unit {0}
+HasRoom None n = ⊥
 
--- the room that is left fell by so many bytes, where it is told
+-- the room that is left fell by so many bytes
 abbrev pub Fell : Option ℕ → Option ℕ → ℕ → Type 0
 Fell (Some before) (Some now) n = now + n ≡ before
 Fell None None n = Unit {0}

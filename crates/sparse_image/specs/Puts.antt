@@ -4,7 +4,7 @@ use Rattle.std.specs.List.{flat_map}
 use Rattle.sparse_image.specs.declared.chunk.Content.{Content}
 use Rattle.sparse_image.specs.declared.chunk.Content.TheVariants.{Raw, Fill, DontCare}
 use Rattle.sparse_image.specs.declared.chunk.Chunk.{Chunk}
-use Rattle.sparse_image.specs.Outside.{Grew}
+use Rattle.sparse_image.specs.Outside.{Grew, GrewOrLost}
 use Rattle.sparse_image.specs.Walks.{chunk_len}
 use Rattle.sparse_image.specs.Pieces.{head_bytes, kind_of}
 
@@ -48,4 +48,4 @@ pub record PutsInPart (told : Option (List ℕ)) (want : List ℕ → List ℕ) 
   pub bytes : List ℕ
   pub short : length bytes < n
   pub wanted : IfSome told (λ file. bytes ≡ take (length bytes) (want file))
-  pub grew : Grew before now bytes
+  pub grew : GrewOrLost before now bytes

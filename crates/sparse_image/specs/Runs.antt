@@ -28,11 +28,18 @@ run_cells (Copy at bytes) = map Byte bytes.now
 run_cells (Fill at length pattern) = copies (length / 4) (map Byte pattern)
 run_cells (Zeros at length) = replicate length (Byte 0)
 
+-- four bytes again and again are whole fours, from a multiple of four on
+abbrev pub HasFours : Run → Type 0
+HasFours (Copy at bytes) = Unit {0}
+HasFours (Fill at length pattern) = (at % 4 ≡ 0) × (length % 4 ≡ 0)
+HasFours (Zeros at length) = Unit {0}
+
 -- a run of at least one byte, before which all is to stay, and what is left behind it
 pub record GivesRun (before : Left) (run : Run) (now : Left) : Type 0 where
   pub len : now.len ≡ before.len
   pub later : before.at ≤ run_at run
   pub some : 0 < length (run_cells run)
+  pub fours : HasFours run
   pub at : now.at ≡ run_at run + length (run_cells run)
   pub cells : before.cells ≡ replicate (run_at run - before.at) Skip ++ (run_cells run ++ now.cells)
 
@@ -75,6 +82,7 @@ pub record AreWhole (c : Chunks) : Type 0 where
   pub whole : IsSome (chunks_cells c.chunks c.block c.blocks c.bytes.now)
   pub small : c.at + c.blocks * c.block < 2 ^ 64
   pub fours : c.block % 4 ≡ 0
+  pub placed : c.at % 4 ≡ 0
 
 abbrev pub IsWalk : Walk → Type 0
 IsWalk (walk.Sparse chunks) = AreWhole chunks

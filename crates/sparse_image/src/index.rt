@@ -47,6 +47,7 @@ fn next_chunk<B: Bytes>(
     ensures read { IsErrOf result CheckError.Read → Rose (B.faults source.old) (B.faults source.new) }
     ensures memory { ¬ IsErrOf result CheckError.Memory }
     ensures content { B.content source.new ≡ B.content source.old }
+    ensures kept { B.kept source.new ≡ B.kept source.old }
     ensures size { B.size source.new ≡ B.size source.old }
     ensures later { B.faults source.old ≤ B.faults source.new }
 {
@@ -69,6 +70,7 @@ fn begins_sparse<B: Bytes>(source: &mut B, len: u64) -> Result<bool, BytesFault>
     requires told { IfSome (B.content source.old) (λ file. length file ≡ len) }
     ensures sparse { IfOk result (λ sparse. IfSome (B.content source.old) (λ file. is_sparse file ≡ sparse)) }
     ensures content { B.content source.new ≡ B.content source.old }
+    ensures kept { B.kept source.new ≡ B.kept source.old }
     ensures size { B.size source.new ≡ B.size source.old }
     ensures cause { HasCause (B.faults source.old) (B.faults source.new) result }
 {
@@ -89,6 +91,7 @@ fn read_header<B: Bytes>(source: &mut B, len: u64) -> Result<Header, CheckError>
     ensures flaw { (flaw : _) → IsErrOf result (CheckError.Bad flaw) → IfSome (B.content source.old) (λ file. header_of (length file) file ≡ Err flaw) }
     ensures read { IsErrOf result CheckError.Read → Rose (B.faults source.old) (B.faults source.new) }
     ensures content { B.content source.new ≡ B.content source.old }
+    ensures kept { B.kept source.new ≡ B.kept source.old }
     ensures size { B.size source.new ≡ B.size source.old }
     ensures later { B.faults source.old ≤ B.faults source.new }
 {
@@ -142,6 +145,7 @@ fn read_chunks<B: Bytes>(
     ensures flaw { (flaw : _) → IsErrOf result (CheckError.Bad flaw) → IfSome (B.content source.old) (λ file. walked header.now.chunks header.now.block header.now.blocks 28 (drop 28 file) ≡ Err flaw) }
     ensures read { IsErrOf result CheckError.Read → Rose (B.faults source.old) (B.faults source.new) }
     ensures content { B.content source.new ≡ B.content source.old }
+    ensures kept { B.kept source.new ≡ B.kept source.old }
     ensures size { B.size source.new ≡ B.size source.old }
     ensures later { B.faults source.old ≤ B.faults source.new }
 {
@@ -242,6 +246,7 @@ fn check_sparse<B: Bytes>(alloc: Global, source: &mut B, len: u64) -> Result<Ind
     ensures flaw { (flaw : _) → IsErrOf result (CheckError.Bad flaw) → IfSome (B.content source.old) (λ file. sparse_checked file ≡ Err flaw) }
     ensures read { IsErrOf result CheckError.Read → Rose (B.faults source.old) (B.faults source.new) }
     ensures content { B.content source.new ≡ B.content source.old }
+    ensures kept { B.kept source.new ≡ B.kept source.old }
     ensures size { B.size source.new ≡ B.size source.old }
     ensures later { B.faults source.old ≤ B.faults source.new }
 {
@@ -294,6 +299,7 @@ pub fn check<B: Bytes>(alloc: Global, source: &mut B) -> Result<Index, CheckErro
     ensures none { (flaw : _) → IsErrOf result (CheckError.Bad flaw) → IfSome (B.content source.old) (λ file. image file ≡ None) }
     ensures read { IsErrOf result CheckError.Read → Rose (B.faults source.old) (B.faults source.new) }
     ensures content { B.content source.new ≡ B.content source.old }
+    ensures kept { B.kept source.new ≡ B.kept source.old }
     ensures size { B.size source.new ≡ B.size source.old }
     ensures later { B.faults source.old ≤ B.faults source.new }
 {

@@ -18,18 +18,31 @@ pub trait Out {
     /// All the bytes that were put, where the out tells them.
     ghost put_so_far: { Self → Option (List ℕ) };
 
-    /// How many bytes the out still takes, where it tells this.
+    /// How many bytes the out still takes; None where it takes nothing any more.
     ghost room: { Self → Option ℕ };
 
     /// The count of faults.
     ghost faults: { Self → ℕ };
 
-    /// Puts all the bytes. After a fault a front of them was put that lacks at least one.
+    /// What no call changes, as which value an out borrows.
+    ghost Kept: { Type 0 } = { Unit {0} };
+
+    ghost kept: { Self → Self.Kept };
+
+    /// What only a fault changes.
+    ghost Whole: { Type 0 } = { Unit {0} };
+
+    ghost whole: { Self → Self.Whole };
+
+    /// Puts all the bytes. After a fault a front of them was put that lacks at least one, where the out
+    /// still tells what was put.
     fn put(&mut self, bytes: &[u8]) -> Result<(), OutFault>
         requires { HasRoom (room self.old) (length bytes.now) }
         ensures all { OnOk result (Grew (put_so_far self.old) (put_so_far self.new) bytes.now) }
         ensures part { OnErr result (GrewInPart (put_so_far self.old) (put_so_far self.new) bytes.now) }
         ensures room { OnOk result (Fell (room self.old) (room self.new) (length bytes.now)) }
+        ensures kept { Self.kept self.new ≡ Self.kept self.old }
+        ensures whole { OnOk result (Self.whole self.new ≡ Self.whole self.old) }
         ensures cause { HasCause (faults self.old) (faults self.new) result };
 }
 
@@ -74,6 +87,10 @@ impl Out for MemoryOut {
     ghost room = { λ out. Some out.room };
 
     ghost faults = { λ out. 0 };
+
+    ghost kept = { λ out. tt };
+
+    ghost whole = { λ out. tt };
 
     fn put(&mut self, bytes: &[u8]) -> Result<(), OutFault> {
         self.bytes.extend_from_slice(bytes).map_err(|_| OutFault)?;

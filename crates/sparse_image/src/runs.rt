@@ -79,6 +79,7 @@ impl<'a> Chunks<'a> {
     }
 
     /// Takes the first chunk off, and gives its run.
+    #[tactic(auto, using(crate::proofs::RunLemmas::fours))]
     fn take_front(&mut self) -> Option<Run<'a>>
         requires some { 0 < self.old.chunks }
         requires whole { AreWhole self.old }

@@ -19,6 +19,11 @@ pub trait Bytes {
     /// The count of faults.
     ghost faults: { Self → ℕ };
 
+    /// What no call changes, as which value a source borrows.
+    ghost Kept: { Type 0 } = { Unit {0} };
+
+    ghost kept: { Self → Self.Kept };
+
     /// How many bytes there are.
     fn len(&self) -> u64
         ensures size { result ≡ size self.now }
@@ -33,6 +38,7 @@ pub trait Bytes {
         ensures read { IfOk result (λ n. IsRead (content self.old) at buf.new n) }
         ensures content { content self.new ≡ content self.old }
         ensures size { size self.new ≡ size self.old }
+        ensures kept { Self.kept self.new ≡ Self.kept self.old }
         ensures cause { HasCause (faults self.old) (faults self.new) result };
 }
 
@@ -65,6 +71,8 @@ impl Bytes for MemoryBytes<'_> {
     ghost size = { λ source. length source };
 
     ghost faults = { λ source. 0 };
+
+    ghost kept = { λ source. tt };
 
     fn len(&self) -> u64 {
         self.bytes.len() as u64

@@ -1,23 +1,26 @@
-use Rattle.dev_disk.proofs.TwinLemmas.{content-range, twice, told-both, told-first, told-second}
+use Rattle.dev_disk.proofs.TwinLemmas.{content-range, twice, WritesTwin-both, FailsTwin-first, FailsTwin-second}
 use Rattle.dev_disk.proofs.twin.Twin.write.Goals as goal
 
-pub returns-in_default-clause-one : goal.returns-in_default-clause-one
-returns-in_default-clause-one g c =
+pub returns-in_default-clause-fails : goal.returns-in_default-clause-fails
+returns-in_default-clause-fails g c =
     let law = g.met.K.Disk.agrees c.args.disk.now in
-    told-first c.args.self.now c.args.block.now _ _
-    (twice c.args.self.now c.args.block.now _ c.requires.size (content-range _ _ _ _ _ law c.requires.twin.first_inside) (content-range _ _ _ _ _ law c.requires.twin.second_inside) c.requires.twin.apart)
-    c.in_default.ensures.in_part
+    let first = content-range _ _ _ _ _ law c.requires.twin.first_inside in
+    let second = content-range _ _ _ _ _ law c.requires.twin.second_inside in
+    let fits = twice c.args.self.now c.args.block.now _ c.requires.size first second c.requires.twin.apart in
+    FailsTwin-first _ _ _ _ _ fits c.in_default.ensures.fails
 
-pub returns-in_default-write_synced-clause-one : goal.returns-in_default-write_synced-clause-one
-returns-in_default-write_synced-clause-one g c =
+pub returns-in_default-write_synced-clause-fails : goal.returns-in_default-write_synced-clause-fails
+returns-in_default-write_synced-clause-fails g c =
     let law = g.met.K.Disk.agrees c.args.disk.now in
-    told-second c.args.self.now c.args.block.now _ _ _
-    (twice c.args.self.now c.args.block.now _ c.requires.size (content-range _ _ _ _ _ law c.requires.twin.first_inside) (content-range _ _ _ _ _ law c.requires.twin.second_inside) c.requires.twin.apart)
-    c.in-Ok.ensures.wrote c.in_default-write_synced.ensures.in_part
+    let first = content-range _ _ _ _ _ law c.requires.twin.first_inside in
+    let second = content-range _ _ _ _ _ law c.requires.twin.second_inside in
+    let fits = twice c.args.self.now c.args.block.now _ c.requires.size first second c.requires.twin.apart in
+    FailsTwin-second _ _ _ _ _ _ fits c.in-Ok.ensures.writes c.in_default-write_synced.ensures.fails
 
-pub returns-clause-both : goal.returns-clause-both
-returns-clause-both g c =
+pub returns-clause-writes : goal.returns-clause-writes
+returns-clause-writes g c =
     let law = g.met.K.Disk.agrees c.args.disk.now in
-    told-both c.args.self.now c.args.block.now _ _ _
-    (twice c.args.self.now c.args.block.now _ c.requires.size (content-range _ _ _ _ _ law c.requires.twin.first_inside) (content-range _ _ _ _ _ law c.requires.twin.second_inside) c.requires.twin.apart)
-    c.in-Ok.ensures.wrote c.in-Ok-write_synced.ensures.wrote
+    let first = content-range _ _ _ _ _ law c.requires.twin.first_inside in
+    let second = content-range _ _ _ _ _ law c.requires.twin.second_inside in
+    let fits = twice c.args.self.now c.args.block.now _ c.requires.size first second c.requires.twin.apart in
+    WritesTwin-both _ _ _ _ _ fits c.in-Ok.ensures.writes c.in-Ok-write_synced.ensures.writes

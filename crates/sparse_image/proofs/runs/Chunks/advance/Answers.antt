@@ -1,6 +1,6 @@
 use Rattle.std.proofs.Common.{ℕ, ◌+◌, ◌-◌, ◌*◌, arith, sym, ◌∙◌, ap, refl, length, take, drop}
 use Rattle.std.proofs.lemmas.List.{take_rest}
-use Rattle.sparse_image.proofs.RunLemmas.{front-never, chunk-lies, chunk-long, chunk-advances, chunk-whole, blocks-spent}
+use Rattle.sparse_image.proofs.RunLemmas.{fours, front-never, chunk-lies, chunk-long, chunk-advances, chunk-whole, blocks-spent}
 use Rattle.sparse_image.proofs.runs.Chunks.advance.Goals as goal
 
 pub unreachable-requires : goal.unreachable-requires
@@ -24,6 +24,7 @@ returns-clause-whole c =
           (s.chunks - 1) (take (length s.bytes.now - c.len.result) (drop c.len.result s.bytes.now)) refl (take_rest s.bytes.now c.len.result ∙ ap (λ (x : ℕ). drop x s.bytes.now) c.len.ensures);
       small = rw (c.from.ensures, c.from-2.ensures) (omega (arith, spent, c.requires.whole.small));
       fours = c.requires.whole.fours;
+      placed = rw (c.from.ensures, c.from-2.ensures) (omega (arith, c.requires.whole.placed, fours c.in-Ok.chunk.blocks s.block c.requires.whole.fours));
     }
 
 pub returns-clause-lies : goal.returns-clause-lies

@@ -1,4 +1,4 @@
-use Rattle.std.proofs.Common.{ℕ, List, sym, subst}
+use Rattle.std.proofs.Common.{ℕ, List, refl, sym, subst}
 use Rattle.std.proofs.lemmas.List.{take_rest}
 use Rattle.dev_model.specs.Images.{sparse_cells}
 use Rattle.sparse_image.specs.Runs.{IsImage}
@@ -11,7 +11,7 @@ invariant_of-result c =
     let header = c.in_ok-header.header in
     let both = sparse-image file header (sym c.in_ok-header.ensures.header) c.in_ok-header.ensures.fine (sym c.in_ok-check_chunks.ensures) in
     let by = subst (λ (xs : List ℕ). AreWholeBy header.block header.blocks header.chunks xs) (sym (take_rest file 28)) both.0 in
-    record { whole = by.whole; small = by.small; fours = by.fours }
+    record { whole = by.whole; small = by.small; fours = by.fours; placed = refl }
 
 pub returns-clause-image : goal.returns-clause-image
 returns-clause-image c =
