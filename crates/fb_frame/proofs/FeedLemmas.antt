@@ -10,25 +10,11 @@ use Rattle.std.proofs.lemmas.Grind.{flat_map-append}
 use Rattle.std.proofs.Math.Seq.{take-add, take-append_seam}
 use Rattle.fb_frame.specs.declared.deframer.Event.{Event}
 use Rattle.fb_frame.specs.declared.deframer.Event.TheVariants.{More, Length, Bytes, End}
+use Rattle.fb_frame.specs.Bytes.{AreBytes}
 use Rattle.fb_frame.specs.Framing.{head, frame, announced, lacks_frame, HasFrame, Cut}
 use Rattle.fb_frame.specs.Stages.{Stage, Head, Left, Feeds}
-use Rattle.fb_frame.specs.Gathered.{Gathered, nothing, noted, Notes, half, AreBytes, IsStage, Reads, ReadsTold, CutsTold}
-
-bytes-append : (x y : List ℕ) → AreBytes x → AreBytes y → AreBytes (x ++ y)
-bytes-append [] y f g i = g i
-bytes-append (b ∷ x) y f g zero = f 0
-bytes-append (b ∷ x) y f g (suc i) = bytes-append x y (λ j. f (suc j)) g i
-
-bytes-take : (n : ℕ) (x : List ℕ) → AreBytes x → AreBytes (take n x)
-bytes-take zero x f i = omega arith
-bytes-take (suc n) [] f i = omega arith
-bytes-take (suc n) (b ∷ x) f zero = f 0
-bytes-take (suc n) (b ∷ x) f (suc i) = bytes-take n x (λ j. f (suc j)) i
-
-bytes-drop : (n : ℕ) (x : List ℕ) → AreBytes x → AreBytes (drop n x)
-bytes-drop zero x f i = f i
-bytes-drop (suc n) [] f i = omega arith
-bytes-drop (suc n) (b ∷ x) f i = bytes-drop n x (λ j. f (suc j)) i
+use Rattle.fb_frame.proofs.FieldLemmas.{bytes-append, bytes-take, bytes-drop}
+use Rattle.fb_frame.specs.Gathered.{Gathered, nothing, noted, Notes, half, IsStage, Reads, ReadsTold, CutsTold}
 
 -- a head goes on
 reads-more : (bytes front piece : List ℕ) (told : Gathered) → AreBytes piece → Reads bytes told (Head front) → length front + length piece < 8 →

@@ -1,7 +1,8 @@
 -- What the events of a deframer tell of the frames in a stream.
-use Rattle.std.specs.Prelude.{◌≡◌, ℕ, ◌+◌, ◌^◌, ◌<◌, List, [], ◌∷◌, ◌++◌, length, map, flat_map, All, get_or, Option, Some, None}
+use Rattle.std.specs.Prelude.{◌≡◌, ℕ, ◌+◌, ◌^◌, ◌<◌, List, [], ◌∷◌, ◌++◌, length, map, flat_map, All, Option, Some, None}
 use Rattle.fb_frame.specs.declared.deframer.Event.{Event}
 use Rattle.fb_frame.specs.declared.deframer.Event.TheVariants.{More, Length, Bytes, End}
+use Rattle.fb_frame.specs.Bytes.{AreBytes}
 use Rattle.fb_frame.specs.Framing.{head, frame, HasFrame, Cut}
 use Rattle.fb_frame.specs.Stages.{Stage, Head, Left}
 
@@ -37,10 +38,6 @@ half (Left count) part = head (length part + count) ++ part
 abbrev pub half_length : Stage → List ℕ → List ℕ
 half_length (Head front) part = []
 half_length (Left count) part = (length part + count) ∷ []
-
--- each is a byte
-abbrev pub AreBytes : List ℕ → Type 0
-AreBytes bytes = (i : ℕ) → get_or bytes i 0 < 256
 
 -- a stage that a deframer can stand in, with this part of a payload
 abbrev pub IsStage : Stage → List ℕ → Type 0

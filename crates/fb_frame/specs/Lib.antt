@@ -13,3 +13,10 @@ pub mod Sinks
 pub mod MemoryText
 pub mod Stages
 pub mod Gathered
+pub mod Told
+pub mod Bytes
+pub mod Distinct
+pub mod Versions
+pub mod Shown
+pub mod Fields
+pub mod Failing
