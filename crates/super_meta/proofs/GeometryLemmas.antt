@@ -10,7 +10,7 @@ use Rattle.super_meta.specs.declared.errors.MetaError.TheVariants.{ShortInput, B
 use Rattle.super_meta.specs.declared.geometry.Geometry.{Geometry}
 use Rattle.super_meta.specs.Flaws.{first_flaw, or_flaw}
 use Rattle.super_meta.specs.GeometryText.{is_geometry, geometry_at, geometry_flaw, geometry_of, geometry_front, geometry_back, geometry_bytes, GeometryBytes}
-use Rattle.super_meta.specs.Laws.{GeometryRead, OneGeometry}
+use Rattle.super_meta.specs.Laws.{GeometryRead, GeometrySpelled, OneGeometry}
 use Rattle.super_meta.specs.Numbers.{u32_at, AreBytes}
 use Rattle.super_meta.specs.Sealed.{zeros, digest_around, sealed}
 use Rattle.super_meta.proofs.FieldLemmas.{field32, below32, again32}
@@ -128,7 +128,10 @@ gives bytes g h =
     ap (λ o. or_flaw o (geometry_at bytes)) none ∙ ap Ok at
 
 pub geometry-read : GeometryRead
-geometry-read bytes g h = (takes bytes g h, gives bytes g)
+geometry-read bytes g h = gives bytes g h
+
+pub geometry-spelled : GeometrySpelled
+geometry-spelled bytes g b e = takes bytes g b e
 
 abbrev read : {X : Type 0} → X → Result X MetaError
 read x = Ok x

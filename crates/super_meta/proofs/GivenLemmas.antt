@@ -17,7 +17,7 @@ use Rattle.super_meta.specs.Entries.{rows, is_zero, is_named, is_unset, is_name_
 use Rattle.super_meta.specs.HeaderText.{header_size, header_at, flags_at, lists_size, are_described, header_holds, tables_hold, size_flaw, seal_flaw}
 use Rattle.super_meta.specs.Contents.{Content, are_named_apart, are_indexed, are_laid, are_known, is_version, tables_size, is_sound}
 use Rattle.super_meta.specs.TableText.{partition_rows, extent_rows, group_rows, device_row, content_in, names_hold, sources_hold, reserved_hold, kinds_hold, entries_flaw, behind, table_of, table_size}
-use Rattle.super_meta.specs.TableBytes.{header_front, descriptor, descriptors, flags_bytes, tables_bytes, header_core, header_back, TableBytes, partition_fits, extent_fits, group_fits, device_fits, fits}
+use Rattle.super_meta.specs.TableBytes.{header_front, descriptor, descriptors, flags_bytes, tables_bytes, header_core, header_back, TableBytes, partition_fits, extent_fits, group_fits, device_fits, lists_fit, fits}
 use Rattle.super_meta.proofs.SealLemmas.{seal-front, seal-digest, seal-behind, seal-back, length-sealed}
 use Rattle.super_meta.proofs.FieldLemmas.{again16, again32}
 use Rattle.super_meta.proofs.NameLemmas.{both, bothly, zeros-pass}
@@ -38,7 +38,7 @@ pub record AreFit (c : Content) : Type 0 where
   pub flags : c.flags < 2 ^ 32
 
 fit-parts : (c : Content) → fits c ≡ true → AreFit c
-unfolding fits
+unfolding lists_fit
 fit-parts c h =
     let a = both _ _ h in
     let b = both _ _ a.0 in

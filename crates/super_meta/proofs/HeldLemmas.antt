@@ -1,13 +1,13 @@
 -- The tables of a file are those of its geometry and table, of which nothing is wrong.
 use Rattle.std.proofs.Common.{◌≡◌, ℕ, zero, suc, ◌+◌, ◌*◌, ◌<◌, ◌≤◌, Bool, true, false, List, length, take, drop, map, Option, Some, None, Result, Ok, Err, refl, sym, ap, ◌∙◌, subst, arith}
-use Rattle.std.specs.Prelude.{◌&&◌, nat_lt, nat_le, ◌==◌, if◌then◌else◌, IfOk}
+use Rattle.std.specs.Prelude.{◌&&◌, nat_lt, nat_le, ◌==◌, if◌then◌else◌, IfOk, IsSome, ◌↔◌}
 use Rattle.std.specs.List.{list_all}
 use Rattle.std.proofs.lemmas.Bool.Decides.{nat_tests}
 use Rattle.fb_frame.specs.NameText.{is_name}
 use Rattle.fb_frame.specs.declared.memory.Memory.{Memory}
 use Rattle.fb_frame.specs.declared.tables.Tables.{Tables}
 use Rattle.super_meta.specs.declared.errors.MetaError.{MetaError}
-use Rattle.super_meta.specs.declared.errors.MetaError.TheVariants.{BadSize}
+use Rattle.super_meta.specs.declared.errors.MetaError.TheVariants.{BadSize, Unsupported}
 use Rattle.super_meta.specs.declared.geometry.Geometry.{Geometry}
 use Rattle.super_meta.specs.declared.header.Header.{Header}
 use Rattle.super_meta.specs.Flaws.{◌then_on◌}
@@ -17,7 +17,8 @@ use Rattle.super_meta.specs.HeaderText.{header_at, lists_size, header_flaw, size
 use Rattle.super_meta.specs.Contents.{Content, take_in_turn, are_named_apart, are_indexed, are_laid, are_known, is_version}
 use Rattle.super_meta.specs.TableText.{partition_rows, group_rows, device_row, content_in, names_hold, sources_hold, kinds_hold, entries_flaw, behind, table_flaw, table_of, table_size}
 use Rattle.super_meta.specs.ImageText.{block_geometry, image_of}
-use Rattle.super_meta.specs.Held.{tables_in, tables_read, tables_of_image}
+use Rattle.super_meta.specs.Held.{tables_in, tables_read, tables_of_image, flaw_read, tables_flaw}
+use Rattle.super_meta.specs.Laws.{TablesFlaw}
 use Rattle.super_meta.proofs.NameLemmas.{both, bothly, name-is}
 use Rattle.super_meta.proofs.FoundLemmas.{no-flaw}
 use Rattle.super_meta.proofs.ImageLemmas.{tabled}
@@ -147,3 +148,16 @@ held-read file tables e = by-length (nat_le (length file) 131072) e
     by-length : (short : Bool) → (if short then tables_read (image_of file) else None) ≡ Some tables → AreHeld tables
     by-length true h = by-image (image_of file) refl h
     by-length false h = absurd cc
+
+flaw-if : (none : Bool) (tables : Tables) → ((if none then None else Some Unsupported) ≡ None) ↔ IsSome (if none then Some tables else None)
+flaw-if true tables = (λ h. refl, λ h. refl)
+flaw-if false tables = (λ h. absurd cc, λ h. absurd cc)
+
+flaw-by : (r : Result (Geometry × Content) MetaError) → (flaw_read r ≡ None) ↔ IsSome (tables_read r)
+flaw-by (Ok (g, c)) = flaw-if (length c.extents == 0) (tables_in g c)
+flaw-by (Err flaw) = (λ h. absurd cc, λ h. absurd cc)
+
+-- a file that isn't too long holds tables exactly where it has no flaw
+pub tables-flaw : TablesFlaw
+unfolding tables_of_image tables_flaw
+tables-flaw file h = let n : nat_le (length file) 131072 ≡ true = grind (arith, nat_tests) in rw n (flaw-by (image_of file))

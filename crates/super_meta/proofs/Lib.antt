@@ -16,3 +16,6 @@ pub mod TakenLemmas
 pub mod AgainLemmas
 pub mod GivenLemmas
 pub mod HeldLemmas
+pub mod FitLemmas
+pub mod SpelledLemmas
+pub mod ExtentLemmas

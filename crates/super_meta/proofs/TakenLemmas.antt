@@ -17,7 +17,7 @@ use Rattle.super_meta.specs.Entries.{rows, is_zero, is_named, is_unset, is_name_
 use Rattle.super_meta.specs.HeaderText.{header_size, header_at, flags_at, lists_size, are_described, header_holds, tables_hold, header_flaw, size_flaw, seal_flaw}
 use Rattle.super_meta.specs.Contents.{Content, are_named_apart, are_indexed, are_laid, are_known, is_version, tables_size, is_sound}
 use Rattle.super_meta.specs.TableText.{partition_rows, extent_rows, group_rows, device_row, content_in, names_hold, sources_hold, reserved_hold, kinds_hold, entries_flaw, behind, table_flaw, table_of, table_size}
-use Rattle.super_meta.specs.TableBytes.{header_front, descriptor, descriptors, flags_bytes, tables_bytes, header_core, header_back, table_bytes, TableBytes, partition_fits, extent_fits, group_fits, device_fits, fits}
+use Rattle.super_meta.specs.TableBytes.{header_front, descriptor, descriptors, flags_bytes, tables_bytes, header_core, header_back, table_bytes, TableBytes, partition_fits, extent_fits, group_fits, device_fits, lists_fit, fits}
 use Rattle.super_meta.proofs.SealLemmas.{part, seals}
 use Rattle.super_meta.proofs.FieldLemmas.{bytes-drop, bytes-take, field32, below32, below64}
 use Rattle.super_meta.proofs.NameLemmas.{both, bothly, name-is, zeros-are}
@@ -174,7 +174,7 @@ flags-fit : (bytes : List ℕ) (minor : ℕ) → AreBytes bytes → (if minor ==
 flags-fit bytes minor b = let h = below32 128 bytes b in ⊎_elim (λ k. rw k.0 h) (λ k. rw k.0 (omega arith)) (eqb_tells minor 2)
 
 fits-in : (h : Header) (tables : List ℕ) → AreBytes tables → names_hold h tables ≡ true → sources_hold h tables ≡ true → h.flags < 2 ^ 32 → fits (content_in h tables) ≡ true
-unfolding names_hold sources_hold content_in fits
+unfolding names_hold sources_hold content_in lists_fit
 fits-in h tables b names sources flags =
     let n1 = both (list_all is_named (partition_rows h tables) && list_all is_named (group_rows h tables)) (is_name_field (take 36 (drop 24 (device_row h tables)))) names in
     let n2 = both (list_all is_named (partition_rows h tables)) (list_all is_named (group_rows h tables)) n1.0 in

@@ -1,5 +1,5 @@
 -- What a table says, and when it is sound (liblp metadata_format.h).
-use Rattle.std.specs.Prelude.{ℕ, ◌+◌, ◌*◌, ◌/◌, ◌%◌, ◌^◌, Bool, true, not, ◌&&◌, ◌||◌, List, [], ◌∷◌, map, length, nat_lt, nat_le, max, min, ◌==◌, bytes_eq, if◌then◌else◌}
+use Rattle.std.specs.Prelude.{ℕ, ◌+◌, ◌*◌, ◌/◌, ◌%◌, ◌^◌, Bool, true, not, ◌&&◌, ◌||◌, List, [], ◌∷◌, map, length, take, drop, nat_lt, nat_le, max, min, ◌==◌, bytes_eq, if◌then◌else◌}
 use Rattle.std.specs.List.{list_all, list_any}
 use Rattle.super_meta.specs.declared.table.Partition.{Partition}
 use Rattle.super_meta.specs.declared.table.Extent.{Extent}
@@ -44,9 +44,17 @@ take_in_turn extents at (p ∷ partitions) = p.first == at && take_in_turn exten
 unfoldable pub are_indexed : Content → Bool
 are_indexed c = take_in_turn (length c.extents) 0 c.partitions && list_all (λ p. nat_lt p.group (length c.groups)) c.partitions
 
+-- the extents of a partition
+abbrev pub extents_of : Content → Partition → List Extent
+extents_of c p = take p.count (drop p.first c.extents)
+
 -- an extent of at least one sector that lies behind the first logical sector and before the device's end
 abbrev pub lies_in : BlockDevice → Extent → Bool
 lies_in device e = nat_lt 0 e.sectors && nat_le device.first_sector e.target && nat_le (512 * (e.target + e.sectors)) device.size
+
+-- the sector lies in the extent
+abbrev pub has_sector : ℕ → Extent → Bool
+has_sector sector e = nat_le e.target sector && nat_lt sector (e.target + e.sectors)
 
 -- two extents share a sector
 abbrev pub shares : Extent → Extent → Bool

@@ -6,6 +6,7 @@ use Rattle.fb_frame.specs.declared.tables.TableGroup.{TableGroup}
 use Rattle.fb_frame.specs.declared.tables.TableGeometry.{TableGeometry}
 use Rattle.fb_frame.specs.declared.tables.TableDevice.{TableDevice}
 use Rattle.super_meta.specs.declared.errors.MetaError.{MetaError}
+use Rattle.super_meta.specs.declared.errors.MetaError.TheVariants.{Unsupported}
 use Rattle.super_meta.specs.declared.geometry.Geometry.{Geometry}
 use Rattle.super_meta.specs.declared.table.Partition.{Partition}
 use Rattle.super_meta.specs.declared.table.Group.{Group}
@@ -52,3 +53,12 @@ tables_read (Err flaw) = None
 -- The tables of a file that is at most 131,072 bytes long, is read whole, and has no extent.
 unfoldable pub tables_of_image : List ℕ → Option Tables
 tables_of_image file = if nat_le (length file) 131072 then tables_read (image_of file) else None
+
+-- the flaw of what was read, or else Unsupported where there is an extent
+abbrev pub flaw_read : Result (Geometry × Content) MetaError → Option MetaError
+flaw_read (Ok (geometry, c)) = if length c.extents == 0 then None else Some Unsupported
+flaw_read (Err flaw) = Some flaw
+
+-- Why a file holds no tables, apart from its length: the first flaw of its image, or else that it has an extent.
+unfoldable pub tables_flaw : List ℕ → Option MetaError
+tables_flaw file = flaw_read (image_of file)

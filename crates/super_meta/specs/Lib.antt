@@ -5,8 +5,9 @@ pub mod GeometryText
 pub mod HeaderText
 pub mod Entries
 pub mod Contents
-pub mod Laws
 pub mod TableText
 pub mod ImageText
 pub mod TableBytes
+pub mod ImageBytes
 pub mod Held
+pub mod Laws

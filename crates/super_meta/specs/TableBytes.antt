@@ -66,11 +66,13 @@ abbrev pub device_fits : BlockDevice → Bool
 device_fits d =
     is_name d.name && nat_lt d.first_sector (2 ^ 64) && nat_lt d.alignment (2 ^ 32) && nat_lt d.offset (2 ^ 32) && nat_lt d.size (2 ^ 64)
 
+-- each name in the lists is one, and each number in them fits its field
+unfoldable pub lists_fit : Content → Bool
+lists_fit c = list_all partition_fits c.partitions && list_all extent_fits c.extents && list_all group_fits c.groups && device_fits c.device
+
 -- each name is one, and each number fits its field
-unfoldable pub fits : Content → Bool
-fits c =
-    list_all partition_fits c.partitions && list_all extent_fits c.extents && list_all group_fits c.groups
-    && device_fits c.device && nat_lt c.flags (2 ^ 32)
+abbrev pub fits : Content → Bool
+fits c = lists_fit c && nat_lt c.flags (2 ^ 32)
 
 -- The bytes begin with this table. What follows its last list counts for nothing.
 pub record TableBytes (c : Content) (bytes : List ℕ) : Type 0 where

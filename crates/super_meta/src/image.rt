@@ -1,18 +1,20 @@
-ghost use Rattle.std.specs.Prelude.{◌≡◌, ◌<◌, ◌≤◌, length, OnOk, IfOk, IfErr, Ok, Err, vec_capacity};
+ghost use Rattle.std.specs.Prelude.{◌≡◌, ◌<◌, ◌≤◌, length, OnOk, OnErr, IfOk, IfErr, Ok, Err, vec_capacity};
 ghost use Rattle.std.specs.Result.{IsErrOf, result_err};
 ghost use Rattle.super_meta.specs.declared.errors.MetaError.{MetaError};
-ghost use Rattle.super_meta.specs.Contents.{content};
+ghost use Rattle.super_meta.specs.declared.geometry.Geometry.{Geometry};
+ghost use Rattle.super_meta.specs.Contents.{Content, content};
 ghost use Rattle.super_meta.specs.TableText.{table_of, table_size};
 ghost use Rattle.super_meta.specs.ImageText.{block_geometry, image_of};
+ghost use Rattle.super_meta.specs.ImageBytes.{ImageBytes};
 
 use crate::errors::{MetaError, ReadError};
 use crate::geometry::{BLOCK, Geometry, read_geometry};
 use crate::header::{EXTENT, GROUP, Header, PARTITION};
 use crate::reading::read_table;
 use crate::table::Table;
+use fb_frame::memory::Memory;
 use std::alloc::Global;
 use std::marker::Model;
-use thiserror::Error;
 
 /// How many bytes an image of an empty super has at most, for which a room is made.
 pub const LONGEST: usize = 131_072;
@@ -30,7 +32,7 @@ fn block_geometry(bytes: &[u8]) -> Result<Geometry, MetaError>
 }
 
 /// The geometry and the table of an image of an empty super, or the first thing that is wrong with it.
-pub fn read_empty_image(alloc: Global, bytes: &[u8]) -> Result<(Geometry, Table), ReadError>
+fn image_in(alloc: Global, bytes: &[u8]) -> Result<(Geometry, Table), ReadError>
     ensures image { IfOk result (λ image. image_of bytes.now ≡ Ok (image.0, content image.1)) }
     ensures flaw { (flaw : MetaError) → IsErrOf result (ReadError.Bad flaw) → image_of bytes.now ≡ Err flaw }
 {
@@ -49,10 +51,16 @@ pub fn read_empty_image(alloc: Global, bytes: &[u8]) -> Result<(Geometry, Table)
     Ok((geometry, table))
 }
 
-/// There was no memory.
-#[derive(Debug, Drop, Error)]
-#[error("memory")]
-pub struct Memory;
+/// The geometry and the table of an image of an empty super, or the first thing that is wrong with it, in
+/// the order of the errors' numbers, where a length other than that of both parts comes last.
+pub fn read_empty_image(alloc: Global, bytes: &[u8]) -> Result<(Geometry, Table), ReadError>
+    ensures image { IfOk result (λ image. image_of bytes.now ≡ Ok (image.0, content image.1)) }
+    ensures flaw { (flaw : MetaError) → IsErrOf result (ReadError.Bad flaw) → image_of bytes.now ≡ Err flaw }
+    ensures found { IfOk result (λ image. ImageBytes image.0 (content image.1) bytes.now) }
+    ensures only { (flaw : MetaError) → IsErrOf result (ReadError.Bad flaw) → (g : Geometry) (c : Content) → ¬ ImageBytes g c bytes.now }
+{
+    image_in(alloc, bytes)
+}
 
 /// Room for the geometry and the table of any image of an empty super of at most 131,072 bytes.
 /// Contracts see what the table in it says.
@@ -102,9 +110,8 @@ impl TableRoom {
         Ok(TableRoom { table })
     }
 
-    /// Reads an image of an empty super of at most 131,072 bytes, as `read_empty_image` does, without
-    /// taking memory.
-    pub fn read(&mut self, bytes: &[u8]) -> Result<Geometry, MetaError>
+    /// Reads an image into the room.
+    fn take_image(&mut self, bytes: &[u8]) -> Result<Geometry, MetaError>
         requires short { length bytes.now ≤ 131072 }
         ensures table { IfOk result (λ geometry. image_of bytes.now ≡ Ok (geometry, self.new)) }
         ensures flaw { result_err result ≡ result_err (image_of bytes.now) }
@@ -116,6 +123,18 @@ impl TableRoom {
             return Err(MetaError::BadSize);
         }
         Ok(geometry)
+    }
+
+    /// Reads an image of an empty super of at most 131,072 bytes, as `read_empty_image` does, without
+    /// taking memory.
+    pub fn read(&mut self, bytes: &[u8]) -> Result<Geometry, MetaError>
+        requires short { length bytes.now ≤ 131072 }
+        ensures table { IfOk result (λ geometry. image_of bytes.now ≡ Ok (geometry, self.new)) }
+        ensures flaw { result_err result ≡ result_err (image_of bytes.now) }
+        ensures found { IfOk result (λ geometry. ImageBytes geometry self.new bytes.now) }
+        ensures only { OnErr result ((g : Geometry) (c : Content) → ¬ ImageBytes g c bytes.now) }
+    {
+        self.take_image(bytes)
     }
 
     /// The table that was read last.

@@ -2,7 +2,8 @@
 //! table of its logical partitions, read exactly and written in their one spelling.
 #![tactic(auto)]
 
-ghost use Rattle.super_meta.specs.Laws.{GeometryRead, OneGeometry, TableRead, OneTable};
+ghost use Rattle.super_meta.specs.Laws.{GeometryRead, GeometrySpelled, OneGeometry, TableRead, TableSpelled, OneTable};
+ghost use Rattle.super_meta.specs.Laws.{ImageRead, ImageSpelled, SectorsOnce, TakenInTurn, ExtentsJoined, TablesFlaw};
 
 mod checks;
 mod entries;
@@ -21,7 +22,15 @@ pub mod writing;
 /// The laws of the definitions.
 pub fn laws()
     ensures geometry_read { GeometryRead }
+    ensures geometry_spelled { GeometrySpelled }
     ensures one_geometry { OneGeometry }
     ensures table_read { TableRead }
+    ensures table_spelled { TableSpelled }
     ensures one_table { OneTable }
+    ensures image_read { ImageRead }
+    ensures image_spelled { ImageSpelled }
+    ensures sectors_once { SectorsOnce }
+    ensures taken_in_turn { TakenInTurn }
+    ensures extents_joined { ExtentsJoined }
+    ensures tables_flaw { TablesFlaw }
 {}

@@ -1,7 +1,8 @@
 ghost use Rattle.std.specs.Prelude.{◌≡◌, ℕ, ◌+◌, ◌*◌, ◌^◌, ◌<◌, ◌≤◌, ◌++◌, length, take, drop, IsTrue, OnOk, OnErr, IfOk};
-ghost use Rattle.std.specs.List.{flat_map};
+ghost use Rattle.std.specs.List.{list_all, flat_map};
+ghost use Rattle.fb_frame.specs.NameText.{IsName};
 ghost use Rattle.super_meta.specs.Entries.{name_field, partition_bytes, extent_bytes, group_bytes, device_bytes};
-ghost use Rattle.super_meta.specs.TableBytes.{header_front, descriptor, descriptors, header_core, flags_bytes, tables_bytes, table_bytes, fits, TableBytes};
+ghost use Rattle.super_meta.specs.TableBytes.{header_front, descriptor, descriptors, header_core, flags_bytes, tables_bytes, table_bytes, partition_fits, extent_fits, group_fits, device_fits, lists_fit, TableBytes};
 ghost use Rattle.super_meta.specs.TableText.{table_size};
 ghost use Rattle.super_meta.specs.Sealed.{sealed};
 ghost use Rattle.super_meta.specs.HeaderText.{header_size};
@@ -17,7 +18,8 @@ use thiserror::Error;
 
 /// The field of a name: the name, and zeros behind it.
 fn name_field(name: &Name) -> [u8; 36]
-    ensures { result ≡ name_field name.now }
+    ensures field { result ≡ name_field name.now }
+    ensures name { IsName name.now }
 {
     let text = name.bytes();
     let mut field = [0; NAME];
@@ -27,30 +29,40 @@ fn name_field(name: &Name) -> [u8; 36]
 
 impl Partition {
     /// The entry of the partition.
-    #[tactic(auto, using(crate::proofs::PutLemmas::wholes), unfolding(crate::specs::Entries::partition_bytes))]
+    #[tactic(auto, using(crate::proofs::PutLemmas::wholes, crate::proofs::FitLemmas::fitting), unfolding(crate::specs::Entries::partition_bytes))]
     fn entry(&self) -> [u8; 52]
-        ensures { result ≡ partition_bytes self.now }
+        ensures entry { result ≡ partition_bytes self.now }
+        ensures fits { IsTrue (partition_fits self.now) }
     {
+        let Partition {
+            name,
+            attributes,
+            first,
+            count,
+            group,
+        } = *self;
         let mut entry = [0; PARTITION];
-        let at = put(&mut entry, 0, &name_field(&self.name));
-        let at = put(&mut entry, at, &self.attributes.to_le_bytes());
-        let at = put(&mut entry, at, &self.first.to_le_bytes());
-        let at = put(&mut entry, at, &self.count.to_le_bytes());
-        put(&mut entry, at, &self.group.to_le_bytes());
+        let at = put(&mut entry, 0, &name_field(&name));
+        let at = put(&mut entry, at, &attributes.to_le_bytes());
+        let at = put(&mut entry, at, &first.to_le_bytes());
+        let at = put(&mut entry, at, &count.to_le_bytes());
+        put(&mut entry, at, &group.to_le_bytes());
         entry
     }
 }
 
 impl Extent {
     /// The entry of the extent: linear, on the only block device.
-    #[tactic(auto, using(crate::proofs::PutLemmas::wholes), unfolding(crate::specs::Entries::extent_bytes))]
+    #[tactic(auto, using(crate::proofs::PutLemmas::wholes, crate::proofs::FitLemmas::fitting), unfolding(crate::specs::Entries::extent_bytes))]
     fn entry(&self) -> [u8; 24]
-        ensures { result ≡ extent_bytes self.now }
+        ensures entry { result ≡ extent_bytes self.now }
+        ensures fits { IsTrue (extent_fits self.now) }
     {
+        let Extent { sectors, target } = *self;
         let mut entry = [0; EXTENT];
-        let at = put(&mut entry, 0, &self.sectors.to_le_bytes());
+        let at = put(&mut entry, 0, &sectors.to_le_bytes());
         let at = put(&mut entry, at, &0u32.to_le_bytes());
-        let at = put(&mut entry, at, &self.target.to_le_bytes());
+        let at = put(&mut entry, at, &target.to_le_bytes());
         put(&mut entry, at, &0u32.to_le_bytes());
         entry
     }
@@ -58,30 +70,40 @@ impl Extent {
 
 impl Group {
     /// The entry of the group.
-    #[tactic(auto, using(crate::proofs::PutLemmas::wholes), unfolding(crate::specs::Entries::group_bytes))]
+    #[tactic(auto, using(crate::proofs::PutLemmas::wholes, crate::proofs::FitLemmas::fitting), unfolding(crate::specs::Entries::group_bytes))]
     fn entry(&self) -> [u8; 48]
-        ensures { result ≡ group_bytes self.now }
+        ensures entry { result ≡ group_bytes self.now }
+        ensures fits { IsTrue (group_fits self.now) }
     {
+        let Group { name, limit } = *self;
         let mut entry = [0; GROUP];
-        let at = put(&mut entry, 0, &name_field(&self.name));
+        let at = put(&mut entry, 0, &name_field(&name));
         let at = put(&mut entry, at, &0u32.to_le_bytes());
-        put(&mut entry, at, &self.limit.to_le_bytes());
+        put(&mut entry, at, &limit.to_le_bytes());
         entry
     }
 }
 
 impl BlockDevice {
     /// The entry of the block device.
-    #[tactic(auto, using(crate::proofs::PutLemmas::wholes), unfolding(crate::specs::Entries::device_bytes))]
+    #[tactic(auto, using(crate::proofs::PutLemmas::wholes, crate::proofs::FitLemmas::fitting), unfolding(crate::specs::Entries::device_bytes))]
     fn entry(&self) -> [u8; 64]
-        ensures { result ≡ device_bytes self.now }
+        ensures entry { result ≡ device_bytes self.now }
+        ensures fits { IsTrue (device_fits self.now) }
     {
+        let BlockDevice {
+            first_sector,
+            alignment,
+            offset,
+            size,
+            name,
+        } = *self;
         let mut entry = [0; DEVICE];
-        let at = put(&mut entry, 0, &self.first_sector.to_le_bytes());
-        let at = put(&mut entry, at, &self.alignment.to_le_bytes());
-        let at = put(&mut entry, at, &self.offset.to_le_bytes());
-        let at = put(&mut entry, at, &self.size.to_le_bytes());
-        let at = put(&mut entry, at, &name_field(&self.name));
+        let at = put(&mut entry, 0, &first_sector.to_le_bytes());
+        let at = put(&mut entry, at, &alignment.to_le_bytes());
+        let at = put(&mut entry, at, &offset.to_le_bytes());
+        let at = put(&mut entry, at, &size.to_le_bytes());
+        let at = put(&mut entry, at, &name_field(&name));
         put(&mut entry, at, &0u32.to_le_bytes());
         entry
     }
@@ -92,6 +114,7 @@ fn put_partitions(buf: &mut [u8], at: usize, partitions: &[Partition]) -> usize
     requires { at + 52 * length partitions.now ≤ length buf.old }
     ensures at { result ≡ at + 52 * length partitions.now }
     ensures front { take result buf.new ≡ take at buf.old ++ flat_map partition_bytes partitions.now }
+    ensures fits { IsTrue (list_all partition_fits partitions.now) }
     ensures rest { (n : ℕ) → result ≤ n → drop n buf.new ≡ drop n buf.old }
 {
     let mut place = at;
@@ -106,6 +129,7 @@ fn put_extents(buf: &mut [u8], at: usize, extents: &[Extent]) -> usize
     requires { at + 24 * length extents.now ≤ length buf.old }
     ensures at { result ≡ at + 24 * length extents.now }
     ensures front { take result buf.new ≡ take at buf.old ++ flat_map extent_bytes extents.now }
+    ensures fits { IsTrue (list_all extent_fits extents.now) }
     ensures rest { (n : ℕ) → result ≤ n → drop n buf.new ≡ drop n buf.old }
 {
     let mut place = at;
@@ -120,6 +144,7 @@ fn put_groups(buf: &mut [u8], at: usize, groups: &[Group]) -> usize
     requires { at + 48 * length groups.now ≤ length buf.old }
     ensures at { result ≡ at + 48 * length groups.now }
     ensures front { take result buf.new ≡ take at buf.old ++ flat_map group_bytes groups.now }
+    ensures fits { IsTrue (list_all group_fits groups.now) }
     ensures rest { (n : ℕ) → result ≤ n → drop n buf.new ≡ drop n buf.old }
 {
     let mut place = at;
@@ -199,12 +224,14 @@ impl Table {
         requires { at + header_size self.now.minor ≤ length buf.old + 128 }
         ensures at { result + 128 ≡ at + header_size self.now.minor }
         ensures front { take result buf.new ≡ take at buf.old ++ flags_bytes (content self.now) }
+        ensures flags { self.now.flags < 2 ^ 32 }
         ensures rest { (n : ℕ) → result ≤ n → drop n buf.new ≡ drop n buf.old }
     {
+        let flags = self.flags;
         if self.minor != 2 {
             return at;
         }
-        let at = put(buf, at, &self.flags.to_le_bytes());
+        let at = put(buf, at, &flags.to_le_bytes());
         put_zeros(buf, at, 124)
     }
 
@@ -213,6 +240,7 @@ impl Table {
         requires size { size ≡ tables_size (content self.now) }
         requires room { header_size self.now.minor ≤ length buf.old }
         ensures header { take (header_size self.now.minor) buf.new ≡ sealed (header_front self.now.minor) (header_core (content self.now) lists.now ++ flags_bytes (content self.now)) }
+        ensures flags { self.now.flags < 2 ^ 32 }
         ensures rest { (n : ℕ) → header_size self.now.minor ≤ n → drop n buf.new ≡ drop n buf.old }
     {
         let at = put(buf, 0, &header_front(self.minor));
@@ -224,11 +252,12 @@ impl Table {
     }
 
     /// Writes the lists at a place, and answers the place behind them.
-    #[tactic(auto, using(crate::proofs::WriteLemmas::groups), unfolding(crate::specs::TableBytes::tables_bytes))]
+    #[tactic(auto, using(crate::proofs::WriteLemmas::groups), unfolding(crate::specs::TableBytes::tables_bytes, crate::specs::TableBytes::lists_fit))]
     fn put_tables(&self, buf: &mut [u8], at: usize) -> usize
         requires { at + tables_size (content self.now) ≤ length buf.old }
         ensures at { result ≡ at + tables_size (content self.now) }
         ensures front { take result buf.new ≡ take at buf.old ++ tables_bytes (content self.now) }
+        ensures fits { IsTrue (lists_fit (content self.now)) }
         ensures rest { (n : ℕ) → result ≤ n → drop n buf.new ≡ drop n buf.old }
     {
         let at = put_partitions(buf, at, &self.partitions);
@@ -249,7 +278,7 @@ pub fn write_table(table: &Table, buf: &mut [u8]) -> Result<usize, TooLong>
     requires sound { IsTrue (is_sound (content table.now)) }
     ensures size { IfOk result (λ size. size ≡ table_size (content table.now)) }
     ensures bytes { OnOk result (take (table_size (content table.now)) buf.new ≡ table_bytes (content table.now)) }
-    ensures again { OnOk result (IsTrue (fits (content table.now)) → TableBytes (content table.now) buf.new) }
+    ensures again { OnOk result (TableBytes (content table.now) buf.new) }
     ensures rest { OnOk result (drop (table_size (content table.now)) buf.new ≡ drop (table_size (content table.now)) buf.old) }
     ensures fits { OnOk result (table_size (content table.now) ≤ length buf.old) }
     ensures long { OnErr result (length buf.old < table_size (content table.now)) }

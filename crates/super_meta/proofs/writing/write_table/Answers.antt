@@ -2,6 +2,8 @@ use Rattle.std.proofs.Common.{refl}
 use Rattle.super_meta.specs.Contents.{content}
 use Rattle.super_meta.specs.HeaderText.{header_size}
 use Rattle.super_meta.proofs.WriteLemmas.{whole}
+use Rattle.super_meta.proofs.NameLemmas.{bothly}
+use Rattle.super_meta.proofs.FitLemmas.{below}
 use Rattle.super_meta.proofs.writing.write_table.Goals as goal
 
 pub returns-clause-bytes : goal.returns-clause-bytes
@@ -10,4 +12,8 @@ returns-clause-bytes c =
     refl c.header_size-start.ensures c.size-end.ensures c.put_tables.ensures.at c.if-buf-end.false c.put_tables.ensures.front c.digest-lists.ensures c.put_header.ensures.header c.put_header.ensures.rest
 
 pub returns-clause-again : goal.returns-clause-again
-returns-clause-again c = λ f. record { sound = c.requires.sound; fitting = f; spelled = returns-clause-bytes c }
+returns-clause-again c = record {
+  sound = c.requires.sound;
+  fitting = bothly _ _ c.put_tables.ensures.fits (below _ _ c.put_header.ensures.flags);
+  spelled = returns-clause-bytes c;
+}
