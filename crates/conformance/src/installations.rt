@@ -1,4 +1,4 @@
-use dev_disk::digest::digest;
+use fb_frame::digest::digest;
 use dev_disk::memory::MemoryDisk;
 use dev_model::device::Mode;
 use fb_frame::memory_sink::MemorySink;

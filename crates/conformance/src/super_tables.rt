@@ -1,4 +1,4 @@
-use dev_disk::digest::digest;
+use fb_frame::digest::digest;
 use std::alloc::{AllocError, Global};
 use std::test::Fail;
 use super_meta::errors::{MetaError, ReadError};

@@ -2,8 +2,9 @@
 use Rattle.std.proofs.Common.{arith, ◌≡◌, ◌⊎◌, inl, inr, ℕ, ◌+◌, ◌≤◌, List, length, take, drop, Option, Some, None, refl, ap, sym, ◌∙◌, subst}
 use Rattle.dev_disk.specs.declared.twin.Twin.{Twin}
 use Rattle.fb_frame.specs.Causes.{Rose}
+use Rattle.fb_frame.specs.Told.{Both}
 use Rattle.dev_disk.specs.Files.{Files, content, written, DifferWithin, IsInside, Wrote, KeepsUnopened}
-use Rattle.dev_disk.specs.Files.{Tears, IsTornAt, OnBytes, copy}
+use Rattle.dev_disk.specs.Files.{Tears, unchanged, IsTornAt, copy}
 use Rattle.dev_disk.specs.Disks.{DiskTold, open_bytes, FilesKept, OpenKept, Writes, FailsWrite}
 use Rattle.dev_disk.specs.Calls.{Agrees, IsFileOf}
 use Rattle.dev_disk.specs.Twins.{WroteBoth, WroteOne, IsLeft, IsLeftAt, IsFirstLeft, IsSecondLeft, WritesTwin, FailsTwin, FailsCopy}
@@ -98,7 +99,7 @@ second-left torn twin block old new h d =
     }
 
 -- the same of told bytes
-told-both : (twin : Twin) (block : List ℕ) (a b c : Option (List ℕ)) → Twice twin block a → Wrote a b twin.first block → Wrote b c twin.second block → OnBytes (WroteBoth twin block) a c
+told-both : (twin : Twin) (block : List ℕ) (a b c : Option (List ℕ)) → Twice twin block a → Wrote a b twin.first block → Wrote b c twin.second block → Both (WroteBoth twin block) a c
 told-both twin block None None None t w v = tt
 told-both twin block None None (Some new) t w v = v
 told-both twin block None (Some mid) c t w v = absurd w
@@ -108,14 +109,14 @@ told-both twin block (Some old) (Some mid) (Some new) t w v =
     subst (WroteBoth twin block old) (sym (v ∙ ap (λ l. written l twin.second block) w)) (both-written twin block old t)
 
 told-first : (torn : Tears) (twin : Twin) (block : List ℕ) (a b : Option (List ℕ)) → Twice twin block a →
-    OnBytes (IsLeftAt torn twin.first block) a b → OnBytes (WroteOne torn twin block) a b
+    Both (IsLeftAt torn twin.first block) a b → Both (WroteOne torn twin block) a b
 told-first torn twin block None None t w = tt
 told-first torn twin block None (Some new) t w = w
 told-first torn twin block (Some old) None t w = w
 told-first torn twin block (Some old) (Some new) t w = inl (first-left torn twin block old new t w)
 
 told-second : (torn : Tears) (twin : Twin) (block : List ℕ) (a b c : Option (List ℕ)) → Twice twin block a → Wrote a b twin.first block →
-    OnBytes (IsLeftAt torn twin.second block) b c → OnBytes (WroteOne torn twin block) a c
+    Both (IsLeftAt torn twin.second block) b c → Both (WroteOne torn twin block) a c
 told-second torn twin block None None None t w v = tt
 told-second torn twin block None None (Some new) t w v = v
 told-second torn twin block None (Some mid) c t w v = absurd w
@@ -124,13 +125,13 @@ told-second torn twin block (Some old) (Some mid) None t w v = v
 told-second torn twin block (Some old) (Some mid) (Some new) t w v =
     inr (second-left torn twin block old new t (subst (λ l. IsLeftAt torn twin.second block l new) w v))
 
-told-torn : (torn : Tears) (at : ℕ) (block : List ℕ) (a b : Option (List ℕ)) → OnBytes (IsTornAt torn at block) a b → OnBytes (IsLeftAt torn at block) a b
+told-torn : (torn : Tears) (at : ℕ) (block : List ℕ) (a b : Option (List ℕ)) → Both (IsTornAt torn at block) a b → Both (IsLeftAt torn at block) a b
 told-torn torn at block None None t = tt
 told-torn torn at block None (Some new) t = t
 told-torn torn at block (Some old) None t = t
 told-torn torn at block (Some old) (Some new) t = record { differs = t.differs; left = inr t.left }
 
-told-written : (torn : Tears) (at : ℕ) (block : List ℕ) (a b : Option (List ℕ)) → HasRange a at (length block) → Wrote a b at block → OnBytes (IsLeftAt torn at block) a b
+told-written : (torn : Tears) (at : ℕ) (block : List ℕ) (a b : Option (List ℕ)) → HasRange a at (length block) → Wrote a b at block → Both (IsLeftAt torn at block) a b
 told-written torn at block None None r w = tt
 told-written torn at block None (Some new) r w = w
 told-written torn at block (Some old) None r w = w
@@ -140,7 +141,7 @@ told-written torn at block (Some old) (Some new) r w = record {
 }
 
 -- a disk's bytes stay with its files
-same-bytes : (a b : DiskTold) → FilesKept a b → open_bytes b ≡ open_bytes a
+pub same-bytes : (a b : DiskTold) → FilesKept a b → open_bytes b ≡ open_bytes a
 same-bytes a b k = ap (λ files. content files b.open_path) k.files ∙ ap (content a.files) k.path
 
 -- two calls in a row
@@ -150,6 +151,7 @@ FilesKept-then a b c h k = record {
   path = k.path ∙ h.path;
   length = k.length ∙ h.length;
   later = omega (arith, h.later, k.later);
+  torn = λ old written left t. k.torn old written left (h.torn old written left t);
 }
 
 pub OpenKept-then : (a b c : DiskTold) → OpenKept a b → OpenKept b c → OpenKept a c
@@ -158,6 +160,7 @@ OpenKept-then a b c h k = record {
   length = k.length ∙ h.length;
   others = keeps-more a.files b.files c.files a.open_path h.others (subst (KeepsUnopened b.files c.files) h.path k.others);
   later = omega (arith, h.later, k.later);
+  torn = λ old written left t. k.torn old written left (h.torn old written left t);
 }
 
 kept-unopened : (a b : Option Files) (path : Option (List ℕ)) → b ≡ a → KeepsUnopened a b path
@@ -169,7 +172,7 @@ kept-unopened a b (Some path) e = subst (λ files. KeepsUnopened a files (Some p
     kept-self (Some f) path = λ other ne. refl
 
 pub OpenKept-files : (a b : DiskTold) → FilesKept a b → OpenKept a b
-OpenKept-files a b k = record { path = k.path; length = k.length; others = kept-unopened a.files b.files a.open_path k.files; later = k.later }
+OpenKept-files a b k = record { path = k.path; length = k.length; others = kept-unopened a.files b.files a.open_path k.files; later = k.later; torn = k.torn }
 
 pub ruleset disk_kept = (FilesKept-then, OpenKept-then, OpenKept-files)
 
@@ -187,19 +190,19 @@ Writes-kept a b c at block w k = record {
   kept = OpenKept-then a b c w.kept (OpenKept-files b c k);
 }
 
-pub FailsCopy-torn : (torn : Tears) (a b : DiskTold) (at : ℕ) (block : List ℕ) → FailsWrite torn a b at block → FailsCopy torn a b at block
-FailsCopy-torn torn a b at block w = record {
-  left = told-torn torn at block (open_bytes a) (open_bytes b) w.part;
+pub FailsCopy-torn : (a b : DiskTold) (at : ℕ) (block : List ℕ) → FailsWrite a b at block → FailsCopy a b at block
+FailsCopy-torn a b at block w = record {
+  left = told-torn b.torn at block (open_bytes a) (open_bytes b) w.part;
   kept = w.kept;
   rose = w.rose;
 }
 
-pub FailsCopy-kept : (torn : Tears) (a b c : DiskTold) (at : ℕ) (block : List ℕ) → HasRange (open_bytes a) at (length block) →
-    Writes a b at block → FilesKept b c → Rose b.faults c.faults → FailsCopy torn a c at block
-FailsCopy-kept torn a b c at block range w k rose =
+pub FailsCopy-kept : (a b c : DiskTold) (at : ℕ) (block : List ℕ) → HasRange (open_bytes a) at (length block) →
+    Writes a b at block → FilesKept b c → Rose b.faults c.faults → FailsCopy a c at block
+FailsCopy-kept a b c at block range w k rose =
     let all : Writes a c at block = Writes-kept a b c at block w k in
     record {
-      left = told-written torn at block (open_bytes a) (open_bytes c) range all.wrote;
+      left = told-written c.torn at block (open_bytes a) (open_bytes c) range all.wrote;
       kept = all.kept;
       rose = Rose-behind a.faults b.faults c.faults w.kept.later rose;
     }
@@ -211,26 +214,26 @@ WritesTwin-both twin block a b c t w v = record {
   kept = OpenKept-then a b c w.kept v.kept;
 }
 
-pub FailsTwin-first : (torn : Tears) (twin : Twin) (block : List ℕ) (a b : DiskTold) → Twice twin block (open_bytes a) →
-    FailsCopy torn a b twin.first block → FailsTwin torn twin block a b
-FailsTwin-first torn twin block a b t w = record {
-  one = told-first torn twin block (open_bytes a) (open_bytes b) t w.left;
+pub FailsTwin-first : (twin : Twin) (block : List ℕ) (a b : DiskTold) → Twice twin block (open_bytes a) →
+    FailsCopy a b twin.first block → FailsTwin twin block a b
+FailsTwin-first twin block a b t w = record {
+  one = told-first b.torn twin block (open_bytes a) (open_bytes b) t w.left;
   kept = w.kept;
   rose = w.rose;
 }
 
-pub FailsTwin-second : (torn : Tears) (twin : Twin) (block : List ℕ) (a b c : DiskTold) → Twice twin block (open_bytes a) →
-    Writes a b twin.first block → FailsCopy torn b c twin.second block → FailsTwin torn twin block a c
-FailsTwin-second torn twin block a b c t w v = record {
-  one = told-second torn twin block (open_bytes a) (open_bytes b) (open_bytes c) t w.wrote v.left;
+pub FailsTwin-second : (twin : Twin) (block : List ℕ) (a b c : DiskTold) → Twice twin block (open_bytes a) →
+    Writes a b twin.first block → FailsCopy b c twin.second block → FailsTwin twin block a c
+FailsTwin-second twin block a b c t w v = record {
+  one = told-second c.torn twin block (open_bytes a) (open_bytes b) (open_bytes c) t w.wrote v.left;
   kept = OpenKept-then a b c w.kept v.kept;
   rose = Rose-behind a.faults b.faults c.faults w.kept.later v.rose;
 }
 
 -- a call that failed and changed nothing tore nothing
-pub torn-still : (at : ℕ) (bytes : List ℕ) (a b : Option (List ℕ)) → b ≡ a → OnBytes (IsTornAt (λ old bytes now. now ≡ old) at bytes) a b
-torn-still at bytes a b e = subst (OnBytes (IsTornAt (λ old bytes now. now ≡ old) at bytes) a) (sym e) (still a)
+pub torn-still : (at : ℕ) (bytes : List ℕ) (a b : Option (List ℕ)) → b ≡ a → Both (IsTornAt unchanged at bytes) a b
+torn-still at bytes a b e = subst (Both (IsTornAt unchanged at bytes) a) (sym e) (still a)
   where
-    still : (o : Option (List ℕ)) → OnBytes (IsTornAt (λ old bytes now. now ≡ old) at bytes) o o
+    still : (o : Option (List ℕ)) → Both (IsTornAt unchanged at bytes) o o
     still None = tt
     still (Some file) = record { differs = record { same_length = refl; front = refl; rest = refl }; left = refl }

@@ -1,6 +1,7 @@
 -- Told disks: what opening and making a file does, and how the meanings of a disk hang together.
 use Rattle.std.specs.Prelude.{◌≡◌, ◌⊎◌, ℕ, List, length, Option, Some, None, IsSome, option_map}
-use Rattle.dev_disk.specs.Files.{Files, zeros}
+use Rattle.fb_frame.specs.Bytes.{zeros}
+use Rattle.dev_disk.specs.Files.{Files}
 
 -- the length of the told file of this path, none where there is none; some length where no files are told
 abbrev pub HasLength : Option Files → List ℕ → Option ℕ → Type 0

@@ -2,8 +2,8 @@ pub mod Files
 pub mod Calls
 pub mod Disks
 pub mod MemoryFiles
-pub mod Failing
 pub mod MemoryLaws
 pub mod Memory
 pub mod RealFiles
 pub mod Twins
+pub mod Honest

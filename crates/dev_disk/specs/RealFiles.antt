@@ -11,6 +11,12 @@ file_length disk = option_map (λ opened. opened.size) disk.opened
 abbrev pub file_faults : {R : Type 0} → FileDisk R → ℕ
 file_faults disk = disk.faults
 
--- it tells no bytes
+-- it tells no bytes, so its failed writes may have left any
 abbrev pub file_told : {R : Type 0} → FileDisk R → DiskTold
-file_told disk = record { files = None; open_path = None; open_length = file_length disk; faults = file_faults disk }
+file_told disk = record {
+  files = None;
+  open_path = None;
+  open_length = file_length disk;
+  faults = file_faults disk;
+  torn = λ _ _ _. Unit {0};
+}

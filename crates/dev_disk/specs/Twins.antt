@@ -2,8 +2,9 @@
 use Rattle.std.specs.Prelude.{◌≡◌, ◌⊎◌, ℕ, ◌+◌, ◌≤◌, Bool, List, length, Option, if◌then◌else◌}
 use Rattle.dev_disk.specs.declared.twin.Twin.{Twin}
 use Rattle.fb_frame.specs.Causes.{Rose}
+use Rattle.fb_frame.specs.Told.{Both}
 use Rattle.dev_disk.specs.Disks.{DiskTold, open_bytes, OpenKept}
-use Rattle.dev_disk.specs.Files.{IsInside, DifferWithin, written, copy, Tears, OnBytes}
+use Rattle.dev_disk.specs.Files.{IsInside, DifferWithin, written, copy, Tears}
 
 -- both copies lie in the open file and share no byte
 pub record IsTwin (twin : Twin) (size : Option ℕ) : Type 0 where
@@ -22,7 +23,7 @@ pub record WroteBoth (twin : Twin) (block old new : List ℕ) : Type 0 where
   pub second : copy new twin.second twin.size ≡ block
   pub same_length : length new ≡ length old
 
--- a copy holds the block, or what a failed write of it leaves
+-- a copy holds the block, or what a failed write of it left
 abbrev pub IsLeft : Tears → List ℕ → List ℕ → List ℕ → Type 0
 IsLeft torn old block now = (now ≡ block) ⊎ torn old block now
 
@@ -49,17 +50,17 @@ pub record IsLeftAt (torn : Tears) (at : ℕ) (block old new : List ℕ) : Type 
 
 -- Both copies were written.
 pub record WritesTwin (twin : Twin) (block : List ℕ) (old new : DiskTold) : Type 0 where
-  pub both : OnBytes (WroteBoth twin block) (open_bytes old) (open_bytes new)
+  pub both : Both (WroteBoth twin block) (open_bytes old) (open_bytes new)
   pub kept : OpenKept old new
 
 -- One copy was being written when a call failed.
-pub record FailsTwin (torn : Tears) (twin : Twin) (block : List ℕ) (old new : DiskTold) : Type 0 where
-  pub one : OnBytes (WroteOne torn twin block) (open_bytes old) (open_bytes new)
+pub record FailsTwin (twin : Twin) (block : List ℕ) (old new : DiskTold) : Type 0 where
+  pub one : Both (WroteOne new.torn twin block) (open_bytes old) (open_bytes new)
   pub kept : OpenKept old new
   pub rose : Rose old.faults new.faults
 
 -- A block was being written over one place when a call failed.
-pub record FailsCopy (torn : Tears) (old new : DiskTold) (at : ℕ) (block : List ℕ) : Type 0 where
-  pub left : OnBytes (IsLeftAt torn at block) (open_bytes old) (open_bytes new)
+pub record FailsCopy (old new : DiskTold) (at : ℕ) (block : List ℕ) : Type 0 where
+  pub left : Both (IsLeftAt new.torn at block) (open_bytes old) (open_bytes new)
   pub kept : OpenKept old new
   pub rose : Rose old.faults new.faults

@@ -1,11 +1,12 @@
 ghost use Rattle.std.specs.Prelude.{◌≡◌, ℕ, List, length, Option, IsSome, OnOk, OnErr, IfOk};
 ghost use Rattle.std.specs.Result.{IsErrOf};
 ghost use Rattle.fb_frame.specs.Causes.{Rose};
-ghost use Rattle.dev_disk.specs.Files.{Tears, IsInside, IsRead};
+ghost use Rattle.dev_disk.specs.Files.{IsInside, IsRead};
 ghost use Rattle.dev_disk.specs.Calls.{Agrees};
 ghost use Rattle.dev_disk.specs.Disks.{DiskTold, open_bytes, FilesKept, FailsStill};
 ghost use Rattle.dev_disk.specs.Disks.{Opens, Creates, FailsCreate, Writes, FailsWrite};
 
+use fb_frame::failures::Failed;
 use std::alloc::Global;
 use thiserror::Error;
 
@@ -13,6 +14,12 @@ use thiserror::Error;
 #[derive(Debug, Drop, Error)]
 #[error("the disk failed")]
 pub struct DiskFault;
+
+impl From<Failed> for DiskFault {
+    fn from(_: Failed) -> DiskFault {
+        DiskFault
+    }
+}
 
 /// Why a file wasn't made.
 #[derive(Debug, Drop, Error)]
@@ -30,11 +37,9 @@ pub trait Disk {
 
     ghost lent: { Self → Self.Lent };
 
-    /// All that the disk tells: its files, the open one, and its count of faults.
+    /// All that the disk tells: its files, the open one, its count of faults, and what failed writes
+    /// left.
     ghost told: { Self → DiskTold };
-
-    /// What a failed write may leave in its range.
-    ghost torn: { Tears };
 
     /// Opens the file of the path, and answers its length in bytes. `None` says that the disk tells
     /// its files and has none of the path. After `None` and after an `Err` the file that was open
@@ -61,11 +66,11 @@ pub trait Disk {
         ensures same { Self.lent self.new ≡ Self.lent self.old };
 
     /// Writes the bytes over those of the open file from the place `at` on. An `Err` may leave any
-    /// bytes in that range that `torn` allows.
+    /// bytes in that range; they are told among what failed writes left.
     fn write_at(&mut self, at: u64, bytes: &[u8]) -> Result<(), DiskFault>
         requires inside { IsInside (told self.old).open_length at (length bytes.now) }
         ensures writes { OnOk result (Writes (told self.old) (told self.new) at bytes.now) }
-        ensures fails { OnErr result (FailsWrite torn (told self.old) (told self.new) at bytes.now) }
+        ensures fails { OnErr result (FailsWrite (told self.old) (told self.new) at bytes.now) }
         ensures same { Self.lent self.new ≡ Self.lent self.old };
 
     /// Waits until what was written to the open file is kept.
@@ -87,8 +92,6 @@ impl<K: Disk> Disk for &mut K {
     ghost lent = { λ disk. (disk.ghost_name, K.lent disk.now) };
 
     ghost told = { λ disk. K.told disk.now };
-
-    ghost torn = { K.torn };
 
     fn open(&mut self, path: &str) -> Result<Option<u64>, DiskFault> {
         (**self).open(path)

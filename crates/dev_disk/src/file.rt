@@ -84,8 +84,6 @@ impl<R: Files<File = File>> Disk for FileDisk<R> {
 
     ghost told = { file_told };
 
-    ghost torn = { λ old bytes now. now ≡ old };
-
     fn open(&mut self, path: &str) -> Result<Option<u64>, DiskFault> {
         let opened = count(&mut self.faults, open_file(&self.runtime, path))?;
         let size = opened.size;

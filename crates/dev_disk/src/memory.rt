@@ -3,19 +3,15 @@ ghost use Rattle.std.specs.Option.{ForSome};
 ghost use Rattle.std.specs.Result.{IsErrOf};
 ghost use Rattle.fb_frame.specs.Causes.{HasCause, Rose};
 ghost use Rattle.dev_disk.specs.Calls.{OpensLength, OpensPath};
-ghost use Rattle.dev_disk.specs.Files.{zeros, content, IsInside, IsRead, Wrote, KeepsUnopened};
+ghost use Rattle.fb_frame.specs.Bytes.{zeros};
+ghost use Rattle.dev_disk.specs.Files.{content, HasOthers, IsInside, IsRead, Wrote, KeepsUnopened};
 ghost use Rattle.dev_disk.specs.MemoryFiles.{IsFirst};
 
 use crate::disk::{CreateError, Disk, DiskFault};
-use crate::failures::Failures;
 use crate::memory_files::{MemoryFile, bytes_at, find_place, overwrite_at, put};
+use fb_frame::failures::Failures;
+use fb_frame::memory::Memory;
 use std::alloc::{AllocError, Global};
-use thiserror::Error;
-
-/// Memory ran out.
-#[derive(Debug, Drop, Error)]
-#[error("out of memory")]
-pub struct Memory;
 
 /// Files in memory. It tells all of them, and fails at the calls whose numbers it was made with; such
 /// a call changes nothing.
@@ -28,7 +24,7 @@ pub struct MemoryDisk {
 }
 
 /// Zeros of this length.
-#[tactic(auto, unfolding(crate::specs::Files::zeros))]
+#[tactic(auto, unfolding(fb_frame::specs::Bytes::zeros))]
 fn make_zeros(alloc: Global, size: usize) -> Result<Vec<u8>, AllocError>
     ensures zeros { IfOk result (λ bytes. bytes.items ≡ zeros size) }
     ensures length { IfOk result (λ bytes. length bytes.items ≡ size) }
@@ -39,34 +35,29 @@ fn make_zeros(alloc: Global, size: usize) -> Result<Vec<u8>, AllocError>
 }
 
 impl MemoryDisk {
-    ghost use Rattle.dev_disk.specs.Memory.{memory_files, memory_path, memory_length, memory_fails, memory_calls, memory_faults, SameCounts};
+    ghost use Rattle.dev_disk.specs.Memory.{memory_files, memory_path, memory_length, memory_failing};
 
     /// A disk without files. `fails` has the numbers, from 1, of the calls that fail.
     pub fn new(alloc: Global, fails: Vec<u64>) -> Result<MemoryDisk, Memory>
         ensures empty { IfOk result (λ disk. (path : List ℕ) → memory_files disk path ≡ None) }
         ensures shut { IfOk result (λ disk. memory_path disk ≡ None) }
-        ensures fails { IfOk result (λ disk. memory_fails disk ≡ fails.items) }
-        ensures calls { IfOk result (λ disk. memory_calls disk ≡ 0) }
-        ensures faults { IfOk result (λ disk. memory_faults disk ≡ 0) }
+        ensures counts { IfOk result (λ disk. memory_failing disk ≡
+            record { fails = fails.items; room = None; calls = 0; faults = 0 }) }
     {
         Ok(MemoryDisk {
             files: Vec::new(alloc),
             opened: None,
-            failures: Failures {
-                fails,
-                calls: 0,
-                faults: 0,
-            },
+            failures: Failures::new(fails),
         })
     }
 
     /// Adds a file, in place of any one of its path.
     pub fn add(&mut self, alloc: Global, path: &str, bytes: &[u8]) -> Result<(), Memory>
         ensures added { OnOk result (memory_files self.new path.now ≡ Some bytes.now) }
-        ensures others { (other : List ℕ) → other ≢ path.now → memory_files self.new other ≡ memory_files self.old other }
+        ensures others { HasOthers path.now (memory_files self.old) (memory_files self.new) }
         ensures same { OnErr result (memory_files self.new ≡ memory_files self.old) }
         ensures path { memory_path self.new ≡ memory_path self.old }
-        ensures counts { SameCounts self.old self.new }
+        ensures counts { memory_failing self.new ≡ memory_failing self.old }
     {
         let path = Vec::from_slice(alloc, path.as_bytes()).map_err(|_| Memory)?;
         let bytes = Vec::from_slice(alloc, bytes).map_err(|_| Memory)?;
@@ -86,7 +77,7 @@ impl MemoryDisk {
 }
 
 impl Disk for MemoryDisk {
-    ghost use Rattle.dev_disk.specs.Memory.{memory_files, memory_path, memory_length, memory_faults};
+    ghost use Rattle.dev_disk.specs.Memory.{memory_files, memory_path, memory_bytes, memory_length, memory_faults};
     ghost use Rattle.dev_disk.specs.Memory.{memory_told, must_fail, Counts, KeepsFiles};
     ghost use Rattle.dev_disk.specs.MemoryLaws.{agree};
 
@@ -94,19 +85,19 @@ impl Disk for MemoryDisk {
 
     ghost told = { memory_told };
 
-    ghost torn = { λ old bytes now. now ≡ old };
-
     fn open(&mut self, path: &str) -> Result<Option<u64>, DiskFault>
-        ensures fails { is_err result ≡ must_fail self.old }
-        ensures counts { Counts self.old self.new }
+        ensures fails { is_err result ≡ must_fail self.old 0 }
+        ensures counts { Counts self.old self.new 0 }
         ensures kept { OnErr result (KeepsFiles self.old self.new) }
         ensures found { IfOk result (λ size. size ≡ option_map length (memory_files self.old path.now)) }
-        ensures length { IfOk result (λ size. OpensLength (memory_length self.old) (memory_length self.new) size) }
-        ensures path { IfOk result (λ size. OpensPath (Some (memory_files self.old)) (memory_path self.old) (memory_path self.new) path.now size) }
+        ensures length { IfOk result (λ size.
+            OpensLength (memory_length self.old) (memory_length self.new) size) }
+        ensures path { IfOk result (λ size. OpensPath (Some (memory_files self.old))
+            (memory_path self.old) (memory_path self.new) path.now size) }
         ensures files { memory_files self.new ≡ memory_files self.old }
         ensures cause { HasCause (memory_faults self.old) (memory_faults self.new) result }
     {
-        self.failures.pass()?;
+        self.failures.pass(0)?;
         let Some(place) = find_place(&self.files, path.as_bytes()) else {
             return Ok(None);
         };
@@ -116,17 +107,17 @@ impl Disk for MemoryDisk {
     }
 
     fn create(&mut self, alloc: Global, path: &str, size: u64) -> Result<(), CreateError>
-        ensures fails { IsErrOf result CreateError.Disk ↔ IsTrue (must_fail self.old) }
-        ensures counts { Counts self.old self.new }
+        ensures fails { IsErrOf result CreateError.Disk ↔ IsTrue (must_fail self.old 0) }
+        ensures counts { Counts self.old self.new 0 }
         ensures kept { OnErr result (KeepsFiles self.old self.new) }
         ensures zeros { OnOk result (memory_files self.new path.now ≡ Some (zeros size)) }
         ensures length { OnOk result (memory_length self.new ≡ Some size) }
         ensures path { OnOk result (memory_path self.new ≡ Some path.now) }
-        ensures others { (other : List ℕ) → other ≢ path.now → memory_files self.new other ≡ memory_files self.old other }
+        ensures others { HasOthers path.now (memory_files self.old) (memory_files self.new) }
         ensures disk { IsErrOf result CreateError.Disk → Rose (memory_faults self.old) (memory_faults self.new) }
         ensures later { memory_faults self.old ≤ memory_faults self.new }
     {
-        let Ok(()) = self.failures.pass() else {
+        let Ok(()) = self.failures.pass(0) else {
             return Err(CreateError::Disk);
         };
         let path = Vec::from_slice(alloc, path.as_bytes()).map_err(|_| CreateError::Memory)?;
@@ -138,13 +129,13 @@ impl Disk for MemoryDisk {
 
     fn read_at(&mut self, at: u64, buf: &mut [u8]) -> Result<(), DiskFault>
         requires inside { IsInside (memory_length self.old) at (length buf.old) }
-        ensures fails { is_err result ≡ must_fail self.old }
-        ensures counts { Counts self.old self.new }
+        ensures fails { is_err result ≡ must_fail self.old 0 }
+        ensures counts { Counts self.old self.new 0 }
         ensures kept { KeepsFiles self.old self.new }
-        ensures read { OnOk result (IsRead (content (Some (memory_files self.old)) (memory_path self.old)) at buf.new) }
+        ensures read { OnOk result (IsRead (memory_bytes self.old) at buf.new) }
         ensures cause { HasCause (memory_faults self.old) (memory_faults self.new) result }
     {
-        self.failures.pass()?;
+        self.failures.pass(0)?;
         let Some(place) = self.opened else {
             unreachable!()
         };
@@ -156,16 +147,17 @@ impl Disk for MemoryDisk {
 
     fn write_at(&mut self, at: u64, bytes: &[u8]) -> Result<(), DiskFault>
         requires inside { IsInside (memory_length self.old) at (length bytes.now) }
-        ensures fails { is_err result ≡ must_fail self.old }
-        ensures counts { Counts self.old self.new }
+        ensures fails { is_err result ≡ must_fail self.old (length bytes.now) }
+        ensures counts { Counts self.old self.new (length bytes.now) }
         ensures kept { OnErr result (KeepsFiles self.old self.new) }
-        ensures wrote { OnOk result (Wrote (content (Some (memory_files self.old)) (memory_path self.old)) (content (Some (memory_files self.new)) (memory_path self.new)) at bytes.now) }
+        ensures wrote { OnOk result (Wrote (memory_bytes self.old) (memory_bytes self.new) at bytes.now) }
         ensures length { memory_length self.new ≡ memory_length self.old }
         ensures path { memory_path self.new ≡ memory_path self.old }
-        ensures others { KeepsUnopened (Some (memory_files self.old)) (Some (memory_files self.new)) (memory_path self.old) }
+        ensures others { KeepsUnopened (Some (memory_files self.old)) (Some (memory_files self.new))
+            (memory_path self.old) }
         ensures cause { HasCause (memory_faults self.old) (memory_faults self.new) result }
     {
-        self.failures.pass()?;
+        self.failures.pass(bytes.len() as u64)?;
         let Some(place) = self.opened else {
             unreachable!()
         };
@@ -175,12 +167,13 @@ impl Disk for MemoryDisk {
 
     fn sync(&mut self) -> Result<(), DiskFault>
         requires open { IsSome (memory_length self.old) }
-        ensures fails { is_err result ≡ must_fail self.old }
-        ensures counts { Counts self.old self.new }
+        ensures fails { is_err result ≡ must_fail self.old 0 }
+        ensures counts { Counts self.old self.new 0 }
         ensures kept { KeepsFiles self.old self.new }
         ensures cause { HasCause (memory_faults self.old) (memory_faults self.new) result }
     {
-        self.failures.pass()
+        self.failures.pass(0)?;
+        Ok(())
     }
 
     ghost agrees = { λ disk. agree disk.files.items disk.opened disk.opened_is_there };
@@ -224,7 +217,7 @@ mod tests {
         assert!(rt; matches!(made, Err(CreateError::Disk)));
         disk.sync()?;
         assert!(rt; disk.file("a") == Some(b"abc".as_slice()));
-        assert_eq!(rt; disk.failures.faults, 2);
+        assert_eq!(rt; disk.failures.faults(), 2);
         Ok(())
     }
 }

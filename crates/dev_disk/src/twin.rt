@@ -18,7 +18,7 @@ pub struct Twin {
 fn write_synced<K: Disk>(disk: &mut K, at: u64, bytes: &[u8]) -> Result<(), DiskFault>
     requires inside { IsInside (K.told disk.old).open_length at (length bytes.now) }
     ensures writes { OnOk result (Writes (K.told disk.old) (K.told disk.new) at bytes.now) }
-    ensures fails { OnErr result (FailsCopy K.torn (K.told disk.old) (K.told disk.new) at bytes.now) }
+    ensures fails { OnErr result (FailsCopy (K.told disk.old) (K.told disk.new) at bytes.now) }
     ensures same { K.lent disk.new ≡ K.lent disk.old }
 {
     let Ok(()) = disk.write_at(at, bytes) else {
@@ -45,7 +45,7 @@ impl Twin {
         requires twin { IsTwin self.now (K.told disk.old).open_length }
         requires size { length block.now ≡ self.now.size }
         ensures writes { OnOk result (WritesTwin self.now block.now (K.told disk.old) (K.told disk.new)) }
-        ensures fails { OnErr result (FailsTwin K.torn self.now block.now (K.told disk.old) (K.told disk.new)) }
+        ensures fails { OnErr result (FailsTwin self.now block.now (K.told disk.old) (K.told disk.new)) }
         ensures same { K.lent disk.new ≡ K.lent disk.old }
     {
         let Ok(()) = write_synced(disk, self.first, block) else {
@@ -69,7 +69,7 @@ impl Twin {
         ensures writes { OnOk result
             (Writes (K.told disk.old) (K.told disk.new) (copy_place self.now which) block.now) }
         ensures fails { OnErr result
-            (FailsCopy K.torn (K.told disk.old) (K.told disk.new) (copy_place self.now which) block.now) }
+            (FailsCopy (K.told disk.old) (K.told disk.new) (copy_place self.now which) block.now) }
         ensures same { K.lent disk.new ≡ K.lent disk.old }
     {
         write_synced(disk, self.place(which), block)
@@ -125,8 +125,6 @@ mod tests {
         ghost lent = { λ recorder. K.lent recorder.disk };
 
         ghost told = { λ recorder. K.told recorder.disk };
-
-        ghost torn = { K.torn };
 
         fn open(&mut self, path: &str) -> Result<Option<u64>, DiskFault> {
             let _ = self.calls.push(Call::Open);
