@@ -1,6 +1,6 @@
 -- Resuming what a chain of attempts left, from resuming what one left.
 use Rattle.std.proofs.Common.{◌≡◌, inl, inr, ℕ, Bool, true, false, Option, Some, None, List, [], ◌∷◌, map, take, All, refl, sym, ap, ◌∙◌, subst, slice_get}
-use Rattle.std.specs.Prelude.{MatchBool}
+use Rattle.std.specs.Prelude.{MatchBool, is_none}
 use Rattle.dev_model.specs.declared.device.Dev.{Dev}
 use Rattle.dev_model.specs.declared.device.Physical.{Physical}
 use Rattle.dev_model.specs.declared.device.Mode.{Mode}
@@ -13,7 +13,8 @@ use Rattle.dev_model.specs.Partitions.{is_fastboot, physical_changed}
 use Rattle.dev_model.specs.Steps.{run, can, apply}
 use Rattle.dev_model.proofs.LeftValid.{left_valid}
 use Rattle.dev_model.specs.Repeats.{IsRepeatable}
-use Rattle.dev_model.specs.Resuming.{Resumes, ResumesChain, fixed_names}
+use Rattle.dev_model.specs.Resuming.{Resumes, ResumesChain, ResumesUnrefused, ResumesRefused, fixed_names}
+use Rattle.dev_model.proofs.RefusingLemmas.{run_unrefused, refused_unless_run}
 
 names-kept : (name : List ℕ) (change : List ℕ → List ℕ) (ps : List Physical) → map (λ p. p.name) (map (physical_changed name change) ps) ≡ map (λ p. p.name) ps
 names-kept name change [] = refl
@@ -86,3 +87,10 @@ resumes_chain one plan s (a ∷ b ∷ rest) t h r v c f =
     resumes_chain one plan c.0 (b ∷ rest) t h (again plan s c.0 (left-fixed plan s a c.0 left) r) (left_valid plan s a c.0 h v left) k f
     ∙ one plan s a c.0 h r v left e)
     c.2
+
+pub resumes_unrefused : ResumesChain → ResumesUnrefused
+resumes_unrefused chain plan s numbers t end h r v c f e = run_unrefused plan t end (chain plan s numbers t h r v c f ∙ e)
+
+pub resumes_refused : ResumesChain → ResumesRefused
+resumes_refused chain plan s numbers t h r v l c f g =
+    sym (refused_unless_run plan t g l) ∙ (ap is_none (chain plan s numbers t h r v c g) ∙ refused_unless_run plan s f l)
