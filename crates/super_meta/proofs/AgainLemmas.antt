@@ -9,10 +9,10 @@ use Rattle.super_meta.specs.declared.table.Partition.{Partition}
 use Rattle.super_meta.specs.declared.table.Extent.{Extent}
 use Rattle.super_meta.specs.declared.table.Group.{Group}
 use Rattle.super_meta.specs.declared.table.BlockDevice.{BlockDevice}
-use Rattle.super_meta.specs.Numbers.{u32_at, u64_at}
+use Rattle.fb_frame.specs.Fields.{u32_at, u64_at}
 use Rattle.super_meta.specs.Entries.{rows, name_in, is_name_field, name_field, is_named, is_unset, partition_of, partition_bytes, extent_of, extent_bytes, group_of, group_bytes, device_of, device_bytes}
 use Rattle.super_meta.specs.TableBytes.{partition_fits, extent_fits, group_fits, device_fits}
-use Rattle.super_meta.proofs.FieldLemmas.{again32, again64}
+use Rattle.fb_frame.proofs.FieldLemmas.{again32, again64}
 use Rattle.super_meta.proofs.NameLemmas.{both, bothly, name-again, field-again, length-name_field}
 
 pub fits-lt : (n k : ℕ) → nat_lt n k ≡ true → n < k
@@ -24,7 +24,7 @@ unset-if place row h = let e : (u32_at place row == 0) ≡ true = grind (arith, 
 five : (n a b c d : List ℕ) → (((n ++ a) ++ b) ++ c) ++ d ≡ n ++ (a ++ (b ++ (c ++ d)))
 five n a b c d = simp append_assoc refl
 
--- a number some bytes behind a place
+-- a number some bytes after a place
 pub later32 : (k j p n : ℕ) (row at rest : List ℕ) → n < 2 ^ 32 → p + k ≡ j → drop p row ≡ at → drop k at ≡ to_le_bytes w32 n ++ rest → u32_at j row ≡ n
 later32 k j p n row at rest h e f g = again32 j n row rest h (sym (drop-drop k p row ∙ ap (λ m. drop m row) e) ∙ (ap (drop k) f ∙ g))
 

@@ -5,7 +5,8 @@ use Rattle.std.proofs.Math.Seq.{drop-cons}
 use Rattle.std.proofs.lemmas.Bool.Decides.{nat_tests}
 use Rattle.std.specs.Prelude.{◌&&◌, ◌||◌, not, bytes_eq, ◌==◌}
 use Rattle.std.specs.List.{list_any}
-use Rattle.super_meta.specs.Contents.{are_distinct, are_apart, shares, take_in_turn}
+use Rattle.fb_frame.specs.Distinct.{are_distinct}
+use Rattle.super_meta.specs.Contents.{are_apart, shares, take_in_turn}
 use Rattle.super_meta.specs.declared.table.Extent.{Extent}
 use Rattle.super_meta.specs.declared.table.Partition.{Partition}
 
@@ -17,7 +18,7 @@ any-map f test (x ∷ xs) = ap (λ b. test (f x) || b) (any-map f test xs)
 left-step : {X : Type 0} (xs : List X) (i : ℕ) (x : X) → i < length xs → x ≡ get_or xs i x → drop i xs ≡ x ∷ drop (i + 1) xs
 left-step xs i x h e = drop-cons xs i x h ∙ (ap (λ y. y ∷ drop (suc i) xs) (sym e) ∙ ap (λ n. x ∷ drop n xs) (sym (add-one i)))
 
--- an entry's name is among those behind it
+-- an entry's name is among those after it
 taken : {T : Type 0} (named : T → List ℕ) (xs : List T) (i : ℕ) (x : T) → i < length xs → x ≡ get_or xs i x → list_any (λ y. bytes_eq (named y) (named x)) (drop (i + 1) xs) ≡ true → are_distinct (map named (drop i xs)) ≡ false
 taken named xs i x h e k =
     ap (λ t. are_distinct (map named t)) (left-step xs i x h e)
@@ -33,7 +34,7 @@ behind : {T : Type 0} (named : T → List ℕ) (xs : List T) (i : ℕ) (x : T) (
 behind named xs i x name found n e =
     sym (e ∙ (ap (list_any (λ y. bytes_eq (named y) name)) (take_rest xs (i + 1)) ∙ ap (λ t. list_any (λ y. bytes_eq (named y) t) (drop (i + 1) xs)) n))
 
--- the same by the search that found the name, or didn't
+-- by the search that found the name, or didn't
 pub taken-by : {T : Type 0} (named : T → List ℕ) (xs : List T) (i : ℕ) (x : T) (name : List ℕ) (found all : Bool) → i < length xs → x ≡ get_or xs i x → name ≡ named x →
     found ≡ list_any (λ y. bytes_eq (named y) name) (take (length xs - (i + 1)) (drop (i + 1) xs)) → found ≡ true → are_distinct (map named (drop i xs)) ≡ all → false ≡ all
 taken-by named xs i x name found all h e n f k so_far = sym (taken named xs i x h e (behind named xs i x name found n f ∙ k)) ∙ so_far

@@ -6,9 +6,10 @@ use Rattle.std.specs.Int.{w16, w32, w64, to_le_bytes}
 use Rattle.std.proofs.Math.Seq.{take-add}
 use Rattle.std.proofs.lemmas.Bool.Decides.{nat_tests}
 use Rattle.std.proofs.lemmas.List.{take_all, length-drop, length-take-le}
-use Rattle.super_meta.specs.Numbers.{u16_at, u32_at, u64_at, AreBytes}
+use Rattle.fb_frame.specs.Bytes.{AreBytes}
+use Rattle.fb_frame.specs.Fields.{u16_at, u32_at, u64_at}
 use Rattle.super_meta.specs.Entries.{rows, name_in, is_name_field, name_field, is_named, is_unset, partition_of, partition_bytes, extent_of, extent_bytes, group_of, group_bytes, device_of, device_bytes}
-use Rattle.super_meta.proofs.FieldLemmas.{bytes-drop, bytes-take, field16, field32, field64}
+use Rattle.fb_frame.proofs.FieldLemmas.{bytes-drop, bytes-take, field16, field32, field64}
 use Rattle.super_meta.proofs.SealLemmas.{part}
 use Rattle.super_meta.proofs.NameLemmas.{both, name-back}
 

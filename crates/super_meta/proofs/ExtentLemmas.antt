@@ -108,7 +108,7 @@ number-same a b h = grind (arith, nat_tests)
 one : (p q : Partition) → Some p ≡ Some q → p ≡ q
 one p q e = cc
 
--- the same from a place on
+-- in turn from a place on
 record IsFrom (at extents : ℕ) (partitions : List Partition) : Type 0 where
   pub first : (i : ℕ) (p : Partition) → slice_get partitions i ≡ Some p → p.first ≡ at + counted (take i partitions)
   pub all : at + counted partitions ≡ extents

@@ -1,4 +1,4 @@
--- A table by its header and what stands behind it.
+-- A table by its header and what follows it.
 use Rattle.std.proofs.Common.{◌≡◌, ℕ, zero, suc, ◌+◌, ◌*◌, List, length, map, drop, Option, Some, None, Result, Ok, Err, refl, sym, ap, ◌∙◌}
 use Rattle.std.specs.Result.{IsErrOf, result_err}
 use Rattle.super_meta.specs.declared.errors.MetaError.{MetaError}
@@ -23,7 +23,7 @@ bad T e = Err (Bad e)
 pub bad-same : (T : Type 0) (e d : MetaError) → IsErrOf (bad T e) (Bad d) → e ≡ d
 bad-same T e d h = cc
 
--- what is read where nothing is wrong behind the header
+-- what is read where nothing is wrong after the header
 pub read-ok : (bytes : List ℕ) (h : Header) (c : Content) → Ok h ≡ header_of bytes → None ≡ entries_flaw bytes h (behind bytes h) → c ≡ content_in h (behind bytes h) → table_of bytes ≡ Ok c
 read-ok bytes h c a f e =
     let n = no-flaw (header_flaw bytes) (header_at bytes) h (sym a) in
@@ -51,7 +51,7 @@ length-rows size (suc more) bytes = ap suc (length-rows size more (drop size byt
 pub count : {X : Type 0} (f : List ℕ → X) (size n : ℕ) (bytes : List ℕ) → length (map f (rows size n bytes)) ≡ n
 count f size n bytes = length-map (rows size n bytes) f ∙ length-rows size n bytes
 
--- the size of what stands behind a header
+-- the size of what follows a header
 pub size-in : (h : Header) (tables : List ℕ) (c : Content) → c ≡ content_in h tables → table_size c ≡ header_size h.minor + (lists_size h + 64)
 unfolding content_in
 size-in h tables c e =
@@ -62,7 +62,7 @@ size-in h tables c e =
 
 pub ruleset sizes = (size-in)
 
--- what is wrong, by what is wrong behind the header
+-- what is wrong, by what is wrong after the header
 pub behind-header : (bytes : List ℕ) (h : Header) (o : Option MetaError) → Ok h ≡ header_of bytes → o ≡ entries_flaw bytes h (behind bytes h) → result_err (table_of bytes) ≡ o
 behind-header bytes h None a f = ap result_err (read-ok bytes h (content_in h (behind bytes h)) a f refl)
 behind-header bytes h (Some d) a f = ap result_err (read-err bytes h d a f)

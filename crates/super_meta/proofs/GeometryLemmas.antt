@@ -11,13 +11,14 @@ use Rattle.super_meta.specs.declared.geometry.Geometry.{Geometry}
 use Rattle.super_meta.specs.Flaws.{first_flaw, or_flaw}
 use Rattle.super_meta.specs.GeometryText.{is_geometry, geometry_at, geometry_flaw, geometry_of, geometry_front, geometry_back, geometry_bytes, GeometryBytes}
 use Rattle.super_meta.specs.Laws.{GeometryRead, GeometrySpelled, OneGeometry}
-use Rattle.super_meta.specs.Numbers.{u32_at, AreBytes}
-use Rattle.super_meta.specs.Sealed.{zeros, digest_around, sealed}
-use Rattle.super_meta.proofs.FieldLemmas.{field32, below32, again32}
+use Rattle.fb_frame.specs.Bytes.{AreBytes, zeros}
+use Rattle.fb_frame.specs.Fields.{u32_at}
+use Rattle.super_meta.specs.Sealed.{digest_around, sealed}
+use Rattle.fb_frame.proofs.FieldLemmas.{field32, below32, again32}
 use Rattle.super_meta.proofs.PutLemmas.{written-front}
 use Rattle.super_meta.proofs.SealLemmas.{part, seals, seal-front, seal-digest, seal-behind, seal-back, length-sealed}
 
--- the same by the values of the fields
+-- what is wrong, by the values of the fields
 abbrev flaw_by : (len magic size : ℕ) (good same : Bool) → Option MetaError
 flaw_by len magic size good same =
     first_flaw

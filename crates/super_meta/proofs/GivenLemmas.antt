@@ -11,15 +11,17 @@ use Rattle.sha2.proofs.Facts256.{length-sha256}
 use Rattle.super_meta.specs.declared.errors.MetaError.{MetaError}
 use Rattle.super_meta.specs.declared.header.Header.{Header}
 use Rattle.super_meta.specs.Flaws.{or_flaw, ◌or_else◌}
-use Rattle.super_meta.specs.Numbers.{u16_at, u32_at}
-use Rattle.super_meta.specs.Sealed.{zeros, digest_around, sealed}
+use Rattle.fb_frame.specs.Fields.{u16_at, u32_at}
+use Rattle.fb_frame.specs.Bytes.{zeros}
+use Rattle.super_meta.specs.Sealed.{digest_around, sealed}
 use Rattle.super_meta.specs.Entries.{rows, is_zero, is_named, is_unset, is_name_field, partition_of, partition_bytes, extent_of, extent_bytes, group_of, group_bytes, device_of, device_bytes}
 use Rattle.super_meta.specs.HeaderText.{header_size, header_at, flags_at, lists_size, are_described, header_holds, tables_hold, size_flaw, seal_flaw}
-use Rattle.super_meta.specs.Contents.{Content, are_named_apart, are_indexed, are_laid, are_known, is_version, tables_size, is_sound}
+use Rattle.fb_frame.specs.Versions.{is_version}
+use Rattle.super_meta.specs.Contents.{Content, are_named_apart, are_indexed, are_laid, are_known, tables_size, is_sound}
 use Rattle.super_meta.specs.TableText.{partition_rows, extent_rows, group_rows, device_row, content_in, names_hold, sources_hold, reserved_hold, kinds_hold, entries_flaw, behind, table_of, table_size}
 use Rattle.super_meta.specs.TableBytes.{header_front, descriptor, descriptors, flags_bytes, tables_bytes, header_core, header_back, TableBytes, partition_fits, extent_fits, group_fits, device_fits, lists_fit, fits}
 use Rattle.super_meta.proofs.SealLemmas.{seal-front, seal-digest, seal-behind, seal-back, length-sealed}
-use Rattle.super_meta.proofs.FieldLemmas.{again16, again32}
+use Rattle.fb_frame.proofs.FieldLemmas.{again16, again32}
 use Rattle.super_meta.proofs.NameLemmas.{both, bothly, zeros-pass}
 use Rattle.super_meta.proofs.HeadLemmas.{sizedly}
 use Rattle.super_meta.proofs.WriteLemmas.{length-header_front, length-header_core, length-descriptors, length-zeros}
@@ -46,7 +48,7 @@ fit-parts c h =
     let e = both _ _ d.0 in
     record { partitions = e.0; extents = e.1; groups = d.1; device = b.1; flags = fits-lt _ _ a.1 }
 
--- the lists behind a header, and where each begins
+-- the lists after a header, and where each begins
 pub record AreListed (c : Content) (rest tables : List ℕ) : Type 0 where
   pub partitions : tables ≡ flat_map partition_bytes c.partitions ++ (flat_map extent_bytes c.extents ++ (flat_map group_bytes c.groups ++ (device_bytes c.device ++ rest)))
   pub extents : drop (52 * length c.partitions) tables ≡ flat_map extent_bytes c.extents ++ (flat_map group_bytes c.groups ++ (device_bytes c.device ++ rest))
@@ -188,7 +190,7 @@ numbers-again bytes rest c small e =
       n124 = later32 44 124 80 64 bytes (descriptors c ++ rest) _ (lit< tt) refl e refl;
     }
 
--- what stands behind the digest
+-- what follows the digest
 record AreBehind (bytes rest : List ℕ) (c : Content) : Type 0 where
   pub size : u32_at 44 bytes ≡ tables_size c
   pub digest : take 32 (drop 48 bytes) ≡ sha256 (tables_bytes c)

@@ -7,7 +7,8 @@ use Rattle.super_meta.specs.declared.errors.MetaError.{MetaError}
 use Rattle.super_meta.specs.declared.errors.MetaError.TheVariants.{ShortInput, BadMagic, BadVersion, BadSize, BadChecksum, BadDescriptor}
 use Rattle.super_meta.specs.declared.header.Header.{Header}
 use Rattle.super_meta.specs.Flaws.{first_flaw, ◌or_else◌}
-use Rattle.super_meta.specs.Numbers.{u16_at, u32_at, AreBytes}
+use Rattle.fb_frame.specs.Bytes.{AreBytes}
+use Rattle.fb_frame.specs.Fields.{u16_at, u32_at}
 use Rattle.super_meta.specs.HeaderText.{header_size, are_described}
 use Rattle.super_meta.specs.TableBytes.{header_front, descriptor}
 use Rattle.super_meta.proofs.NameLemmas.{both}

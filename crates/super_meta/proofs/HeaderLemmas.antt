@@ -3,7 +3,7 @@ use Rattle.std.proofs.Common.{◌≡◌, ℕ, List, None, refl, arith}
 use Rattle.std.proofs.lemmas.Bool.Decides.{nat_tests}
 use Rattle.super_meta.specs.declared.header.Header.{Header}
 use Rattle.super_meta.specs.HeaderText.{header_at, are_described, seal_flaw}
-use Rattle.super_meta.specs.Numbers.{u16_at, u32_at}
+use Rattle.fb_frame.specs.Fields.{u16_at, u32_at}
 
 pub minor-at : (bytes : List ℕ) → (header_at bytes).minor ≡ u16_at 6 bytes
 unfolding header_at

@@ -11,10 +11,11 @@ use Rattle.super_meta.specs.declared.errors.MetaError.TheVariants.{BadSize, Unsu
 use Rattle.super_meta.specs.declared.geometry.Geometry.{Geometry}
 use Rattle.super_meta.specs.declared.header.Header.{Header}
 use Rattle.super_meta.specs.Flaws.{◌then_on◌}
-use Rattle.super_meta.specs.Numbers.{u16_at, u32_at}
+use Rattle.fb_frame.specs.Fields.{u16_at, u32_at}
 use Rattle.super_meta.specs.Entries.{rows, name_in, is_named, is_name_field, partition_of, group_of}
 use Rattle.super_meta.specs.HeaderText.{header_at, lists_size, header_flaw, size_flaw, seal_flaw}
-use Rattle.super_meta.specs.Contents.{Content, take_in_turn, are_named_apart, are_indexed, are_laid, are_known, is_version}
+use Rattle.fb_frame.specs.Versions.{is_version}
+use Rattle.super_meta.specs.Contents.{Content, take_in_turn, are_named_apart, are_indexed, are_laid, are_known}
 use Rattle.super_meta.specs.TableText.{partition_rows, group_rows, device_row, content_in, names_hold, sources_hold, kinds_hold, entries_flaw, behind, table_flaw, table_of, table_size}
 use Rattle.super_meta.specs.ImageText.{block_geometry, image_of}
 use Rattle.super_meta.specs.Held.{tables_in, tables_read, tables_of_image, flaw_read, tables_flaw}
@@ -120,7 +121,7 @@ pub told : (o p : Option Tables) (result : Result (Option Tables) Memory) → o 
 told o p (Ok tables) e h = h ∙ e
 told o p (Err Memory) e h = tt
 
--- what stands behind the tables of a file
+-- what the tables of a file were read of
 pub record AreHeld (tables : Tables) : Type 0 where
   pub geometry : Geometry
   pub content : Content

@@ -53,7 +53,7 @@ image-table bytes g e a t = after-block bytes g (Err e) a t
 abbrev pub failed : (T : Type 0) → ReadError → Result T ReadError
 failed T e = Err e
 
--- the same error of another result
+-- one error of two results
 pub err-as : (T U : Type 0) (e d : ReadError) → IsErrOf (failed T e) d → IsErrOf (failed U e) d
 err-as T U e d h = cc
 
@@ -61,7 +61,7 @@ pub image-long-by : (T : Type 0) (bytes : List ℕ) (g : Geometry) (c : Content)
     (d : MetaError) → IsErrOf (bad T BadSize) (Bad d) → image_of bytes ≡ Err d
 image-long-by T bytes g c l a t s d k = image-long bytes g c l a t s ∙ ap Err (bad-same T BadSize d k)
 
--- the same by what is wrong with the table
+-- what is wrong with an image, by what is wrong with its table
 pub image-wrong : (bytes : List ℕ) (g : Geometry) (d : MetaError) → Ok g ≡ block_geometry bytes → Some d ≡ result_err (table_of (rest_of bytes)) → result_err (image_of bytes) ≡ Some d
 image-wrong bytes g d a t = ap result_err (after-block bytes g (table_of (rest_of bytes)) a refl) ∙ stopped (table_of (rest_of bytes)) t
   where

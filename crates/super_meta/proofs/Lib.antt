@@ -1,5 +1,4 @@
 pub mod PutLemmas
-pub mod FieldLemmas
 pub mod SealLemmas
 pub mod GeometryLemmas
 pub mod HeaderLemmas

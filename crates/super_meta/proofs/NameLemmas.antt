@@ -1,4 +1,4 @@
--- The field of a name holds it, and zeros behind it.
+-- The field of a name holds it, and zeros after it.
 use Rattle.std.proofs.Common.{◌≡◌, ℕ, zero, suc, ◌+◌, ◌-◌, ◌≤◌, Bool, true, false, cond, List, [], ◌∷◌, ◌++◌, length, take, drop, replicate, Some, None, refl, sym, ap, ◌∙◌, arith, length-append}
 use Rattle.std.specs.Prelude.{◌&&◌, not, nat_lt, nat_le, ◌==◌, unwrap_or, min}
 use Rattle.std.specs.List.{list_all, prefix_len}

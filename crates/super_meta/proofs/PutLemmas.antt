@@ -1,7 +1,7 @@
 -- Bytes written at a place of a buffer.
 use Rattle.std.proofs.Common.{◌≡◌, ℕ, ◌-◌, ◌≤◌, List, ◌++◌, length, take, drop, sym, ap, ◌∙◌}
 use Rattle.std.proofs.lemmas.List.{take_all, drop-replicate, take-append-drop}
-use Rattle.super_meta.specs.Sealed.{zeros}
+use Rattle.fb_frame.specs.Bytes.{zeros}
 use Rattle.std.proofs.lemmas.Slice.{take-put_mid, drop-put_mid}
 
 pub ruleset puts = (take-put_mid, drop-put_mid)

@@ -7,7 +7,7 @@ use Rattle.std.proofs.lemmas.Bool.Decides.{nat_tests}
 use Rattle.std.proofs.lemmas.List.{drop-drop, map-append}
 use Rattle.std.proofs.lemmas.List.Folds.{list_all-append}
 use Rattle.super_meta.specs.Entries.{rows, row_at, is_named, is_unset}
-use Rattle.super_meta.specs.Numbers.{u32_at}
+use Rattle.fb_frame.specs.Fields.{u32_at}
 
 row-behind : (size i : ℕ) (bytes : List ℕ) → row_at size i (drop size bytes) ≡ row_at size (suc i) bytes
 row-behind size i bytes = ap (take size) (drop-drop (i * size) size bytes ∙ ap (λ n. drop n bytes) (omega arith))

@@ -10,7 +10,7 @@ use Rattle.super_meta.specs.declared.errors.ReadError.{ReadError}
 use Rattle.super_meta.specs.declared.geometry.Geometry.{Geometry}
 use Rattle.super_meta.specs.declared.table.Table.{Table}
 use Rattle.super_meta.specs.Flaws.{◌then_on◌}
-use Rattle.super_meta.specs.Numbers.{AreBytes}
+use Rattle.fb_frame.specs.Bytes.{AreBytes}
 use Rattle.super_meta.specs.GeometryText.{geometry_of, GeometryBytes}
 use Rattle.super_meta.specs.Contents.{Content, content}
 use Rattle.super_meta.specs.TableText.{table_of, table_size}
@@ -18,7 +18,7 @@ use Rattle.super_meta.specs.TableBytes.{TableBytes}
 use Rattle.super_meta.specs.ImageText.{block_geometry, image_of}
 use Rattle.super_meta.specs.ImageBytes.{ImageBytes}
 use Rattle.super_meta.specs.Laws.{ImageRead, ImageSpelled}
-use Rattle.super_meta.proofs.FieldLemmas.{bytes-take, bytes-drop}
+use Rattle.fb_frame.proofs.FieldLemmas.{bytes-take, bytes-drop}
 use Rattle.super_meta.proofs.GeometryLemmas.{geometry-read, geometry-spelled}
 use Rattle.super_meta.proofs.TakenLemmas.{takes}
 use Rattle.super_meta.proofs.GivenLemmas.{gives}

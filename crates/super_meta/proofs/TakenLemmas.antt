@@ -11,15 +11,17 @@ use Rattle.super_meta.specs.declared.errors.MetaError.{MetaError}
 use Rattle.super_meta.specs.declared.errors.MetaError.TheVariants.{BadName, BadIndex, Overlap, Unsupported}
 use Rattle.super_meta.specs.declared.header.Header.{Header}
 use Rattle.super_meta.specs.Flaws.{first_flaw}
-use Rattle.super_meta.specs.Numbers.{u16_at, u32_at, AreBytes}
-use Rattle.super_meta.specs.Sealed.{zeros, digest_around, sealed}
+use Rattle.fb_frame.specs.Bytes.{AreBytes, zeros}
+use Rattle.fb_frame.specs.Fields.{u16_at, u32_at}
+use Rattle.super_meta.specs.Sealed.{digest_around, sealed}
 use Rattle.super_meta.specs.Entries.{rows, is_zero, is_named, is_unset, is_name_field, partition_of, partition_bytes, extent_of, extent_bytes, group_of, group_bytes, device_of}
 use Rattle.super_meta.specs.HeaderText.{header_size, header_at, flags_at, lists_size, are_described, header_holds, tables_hold, header_flaw, size_flaw, seal_flaw}
-use Rattle.super_meta.specs.Contents.{Content, are_named_apart, are_indexed, are_laid, are_known, is_version, tables_size, is_sound}
+use Rattle.fb_frame.specs.Versions.{is_version}
+use Rattle.super_meta.specs.Contents.{Content, are_named_apart, are_indexed, are_laid, are_known, tables_size, is_sound}
 use Rattle.super_meta.specs.TableText.{partition_rows, extent_rows, group_rows, device_row, content_in, names_hold, sources_hold, reserved_hold, kinds_hold, entries_flaw, behind, table_flaw, table_of, table_size}
 use Rattle.super_meta.specs.TableBytes.{header_front, descriptor, descriptors, flags_bytes, tables_bytes, header_core, header_back, table_bytes, TableBytes, partition_fits, extent_fits, group_fits, device_fits, lists_fit, fits}
 use Rattle.super_meta.proofs.SealLemmas.{part, seals}
-use Rattle.super_meta.proofs.FieldLemmas.{bytes-drop, bytes-take, field32, below32, below64}
+use Rattle.fb_frame.proofs.FieldLemmas.{bytes-drop, bytes-take, field32, below32, below64}
 use Rattle.super_meta.proofs.NameLemmas.{both, bothly, name-is, zeros-are}
 use Rattle.super_meta.proofs.EntryLemmas.{step32, partition-back, extent-back, group-back, device-back, rows-back, both-all}
 use Rattle.super_meta.proofs.FoundLemmas.{no-flaw, count, size-in}
@@ -78,7 +80,7 @@ descriptors-back bytes p e g b l x y z d =
     let three = part 24 12 36 80 104 bytes refl refl ∙ (ap (λ t. t ++ take 12 (drop 104 bytes)) two ∙ ap (λ t. (descriptor 0 p 52 ++ descriptor (52 * p) e 24) ++ t) d3) in
     part 36 12 48 80 116 bytes refl refl ∙ (ap (λ t. t ++ take 12 (drop 116 bytes)) three ∙ ap (λ t. (descriptor 0 p 52 ++ descriptor (52 * p) e 24 ++ descriptor (52 * p + 24 * e) g 48) ++ t) d4)
 
--- what stands behind the digest, up to the end of every version
+-- what follows the digest, up to the end of every version
 core-back : (bytes digest : List ℕ) (c : Content) (p e g : ℕ) → AreBytes bytes → 128 ≤ length bytes → u32_at 44 bytes ≡ tables_size c → take 32 (drop 48 bytes) ≡ digest → take 48 (drop 80 bytes) ≡ descriptors c → take 84 (drop 44 bytes) ≡ header_core c digest
 unfolding header_core
 core-back bytes digest c p e g b l s d t =
@@ -195,7 +197,7 @@ tables-size h tables =
     let d = count group_of 48 h.groups (drop (52 * h.partitions + 24 * h.extents) tables) in
     rw (a, b, d) refl
 
--- what stands behind the digest
+-- what follows the digest
 back-is : (bytes tables : List ℕ) (h : Header) → h ≡ header_at bytes → AreBytes bytes → header_size h.minor + (lists_size h + 64) ≤ length bytes →
     u32_at 44 bytes ≡ lists_size h + 64 → AreDescribed bytes h.partitions h.extents h.groups → tables_hold bytes (header_size h.minor) (u32_at 44 bytes) ≡ true →
     reserved_hold bytes h ≡ true → tables ≡ behind bytes h → take (lists_size h + 64) tables ≡ tables_bytes (content_in h tables) →

@@ -4,7 +4,8 @@ use Rattle.std.specs.Int.{w32, to_le_bytes}
 use Rattle.std.proofs.lemmas.Bool.Decides.{nat_tests}
 use Rattle.std.proofs.lemmas.List.{take_at, drop_at, take-append-drop, drop-take, length-replicate, length-take-le}
 use Rattle.sha2.specs.Sha256.{sha256}
-use Rattle.super_meta.specs.Sealed.{zeros, digest_around, sealed}
+use Rattle.fb_frame.specs.Bytes.{zeros}
+use Rattle.super_meta.specs.Sealed.{digest_around, sealed}
 use Rattle.super_meta.specs.Contents.{Content, tables_size}
 use Rattle.super_meta.specs.HeaderText.{header_size}
 use Rattle.super_meta.specs.TableText.{table_size}
@@ -54,7 +55,7 @@ head-sealed hs m b new front back seal l e w s t d =
     ∙ (ap (λ x. x ++ take m (drop 44 new)) (t ∙ (ap (λ x. x ++ seal) head ∙ ap (λ x. front ++ x) digest))
     ∙ (ap (λ x. (front ++ digest_around front back) ++ x) (ap (take m) d ∙ behind) ∙ append_assoc front (digest_around front back) back))
 
--- lists behind a header, and then the header before them
+-- lists after a header, and then the header before them
 pub table-written : (hs more end : ℕ) (old lists new head tables : List ℕ) → hs + more ≡ end → end ≤ length old → take end lists ≡ take hs old ++ tables → take hs new ≡ head → drop hs new ≡ drop hs lists → take end new ≡ head ++ tables
 table-written hs more end old lists new head tables e l t h d =
     let behind : take more (drop hs lists) ≡ tables = sym (drop-take hs more lists) ∙ (ap (λ n. drop hs (take n lists)) e ∙ (ap (drop hs) t ∙ drop_at (take hs old) tables hs (length-take-le hs old (omega arith)))) in

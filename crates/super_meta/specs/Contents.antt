@@ -1,6 +1,8 @@
 -- What a table says, and when it is sound (liblp metadata_format.h).
 use Rattle.std.specs.Prelude.{ℕ, ◌+◌, ◌*◌, ◌/◌, ◌%◌, ◌^◌, Bool, true, not, ◌&&◌, ◌||◌, List, [], ◌∷◌, map, length, take, drop, nat_lt, nat_le, max, min, ◌==◌, bytes_eq, if◌then◌else◌}
 use Rattle.std.specs.List.{list_all, list_any}
+use Rattle.fb_frame.specs.Distinct.{are_distinct}
+use Rattle.fb_frame.specs.Versions.{are_attributes, is_version}
 use Rattle.super_meta.specs.declared.table.Partition.{Partition}
 use Rattle.super_meta.specs.declared.table.Extent.{Extent}
 use Rattle.super_meta.specs.declared.table.Group.{Group}
@@ -26,11 +28,6 @@ content t = record {
   device = t.device;
 }
 
--- no text stands twice
-abbrev pub are_distinct : List (List ℕ) → Bool
-are_distinct [] = true
-are_distinct (x ∷ xs) = not (list_any (λ y. bytes_eq y x) xs) && are_distinct xs
-
 -- no name stands twice among the partitions or among the groups
 unfoldable pub are_named_apart : Content → Bool
 are_named_apart c = are_distinct (map (λ p. p.name) c.partitions) && are_distinct (map (λ g. g.name) c.groups)
@@ -48,7 +45,7 @@ are_indexed c = take_in_turn (length c.extents) 0 c.partitions && list_all (λ p
 abbrev pub extents_of : Content → Partition → List Extent
 extents_of c p = take p.count (drop p.first c.extents)
 
--- an extent of at least one sector that lies behind the first logical sector and before the device's end
+-- an extent of at least one sector that lies from the first logical sector on and before the device's end
 abbrev pub lies_in : BlockDevice → Extent → Bool
 lies_in device e = nat_lt 0 e.sectors && nat_le device.first_sector e.target && nat_le (512 * (e.target + e.sectors)) device.size
 
@@ -69,19 +66,11 @@ are_apart (e ∷ extents) = not (list_any (shares e) extents) && are_apart exten
 unfoldable pub are_laid : Content → Bool
 are_laid c = list_all (lies_in c.device) c.extents && are_apart c.extents
 
--- The attributes of a partition: bit 0 (readonly), and from minor version 1 on bits 2 (updated) and 3 (disabled).
-abbrev pub are_attributes : ℕ → ℕ → Bool
-are_attributes minor bits = if minor == 0 then nat_lt bits 2 else nat_lt bits 16 && bits / 2 % 2 == 0
-
 -- each partition's attributes are known
 unfoldable pub are_known : Content → Bool
 are_known c = list_all (λ p. are_attributes c.minor p.attributes) c.partitions
 
--- a table's minor version, 2 at most, and its flags, which only version 2 has
-abbrev pub is_version : ℕ → ℕ → Bool
-is_version minor flags = nat_le minor 2 && (nat_le 2 minor || flags == 0)
-
--- how many bytes the tables have behind their header
+-- how many bytes the tables have after their header
 abbrev pub tables_size : Content → ℕ
 tables_size c = 52 * length c.partitions + 24 * length c.extents + 48 * length c.groups + 64
 

@@ -8,9 +8,9 @@ use Rattle.super_meta.specs.declared.table.Partition.{Partition}
 use Rattle.super_meta.specs.declared.table.Extent.{Extent}
 use Rattle.super_meta.specs.declared.table.Group.{Group}
 use Rattle.super_meta.specs.declared.table.BlockDevice.{BlockDevice}
-use Rattle.super_meta.specs.Numbers.{u32_at, u64_at}
+use Rattle.fb_frame.specs.Fields.{u32_at, u64_at}
 
--- so many rows of so many bytes
+-- n rows of `size` bytes each
 unfoldable pub rows : ℕ → ℕ → List ℕ → List (List ℕ)
 rows size zero bytes = []
 rows size (suc more) bytes = take size bytes ∷ rows size more (drop size bytes)

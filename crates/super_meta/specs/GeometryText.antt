@@ -5,7 +5,7 @@ use Rattle.super_meta.specs.declared.errors.MetaError.{MetaError}
 use Rattle.super_meta.specs.declared.errors.MetaError.TheVariants.{ShortInput, BadMagic, BadSize, BadChecksum}
 use Rattle.super_meta.specs.declared.geometry.Geometry.{Geometry}
 use Rattle.super_meta.specs.Flaws.{first_flaw, or_flaw}
-use Rattle.super_meta.specs.Numbers.{u32_at}
+use Rattle.fb_frame.specs.Fields.{u32_at}
 use Rattle.super_meta.specs.Sealed.{digest_around, sealed}
 
 -- The room of a table's copy is a multiple of 512 bytes above 0, there is at least one metadata slot,
@@ -13,7 +13,7 @@ use Rattle.super_meta.specs.Sealed.{digest_around, sealed}
 abbrev pub is_geometry : Geometry → Bool
 is_geometry g = nat_lt 0 g.max_size && g.max_size % 512 == 0 && nat_lt 0 g.slots && g.block_size == 4096
 
--- the numbers behind the digest, as they stand
+-- the numbers after the digest, as they stand
 abbrev pub geometry_at : List ℕ → Geometry
 geometry_at bytes = record { max_size = u32_at 40 bytes; slots = u32_at 44 bytes; block_size = u32_at 48 bytes }
 
@@ -35,7 +35,7 @@ geometry_of bytes = or_flaw (geometry_flaw bytes) (geometry_at bytes)
 unfoldable pub geometry_front : List ℕ
 geometry_front = to_le_bytes w32 0x616C4467 ++ to_le_bytes w32 52
 
--- and behind it: the three numbers
+-- what follows the digest: the three numbers
 unfoldable pub geometry_back : Geometry → List ℕ
 geometry_back g = to_le_bytes w32 g.max_size ++ to_le_bytes w32 g.slots ++ to_le_bytes w32 g.block_size
 

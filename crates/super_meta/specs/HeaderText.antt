@@ -5,7 +5,7 @@ use Rattle.super_meta.specs.declared.errors.MetaError.{MetaError}
 use Rattle.super_meta.specs.declared.errors.MetaError.TheVariants.{ShortInput, BadMagic, BadVersion, BadSize, BadChecksum, BadDescriptor}
 use Rattle.super_meta.specs.declared.header.Header.{Header}
 use Rattle.super_meta.specs.Flaws.{first_flaw, or_flaw, ◌or_else◌}
-use Rattle.super_meta.specs.Numbers.{u16_at, u32_at}
+use Rattle.fb_frame.specs.Fields.{u16_at, u32_at}
 use Rattle.super_meta.specs.Sealed.{digest_around}
 
 -- how many bytes a header has
@@ -16,7 +16,7 @@ header_size minor = if minor == 2 then 256 else 128
 unfoldable pub flags_at : List ℕ → ℕ
 flags_at bytes = if u16_at 6 bytes == 2 then u32_at 128 bytes else 0
 
--- what the header tells of the tables behind it
+-- what the header tells of the tables after it
 unfoldable pub header_at : List ℕ → Header
 header_at bytes = record {
   minor = u16_at 6 bytes;
@@ -71,7 +71,7 @@ seal_flaw bytes h =
     ∷ (not (are_described bytes h), BadDescriptor)
     ∷ [])
 
--- what is wrong with bytes as a header, with the size and the digest of the tables behind it
+-- what is wrong with bytes as a header, with the size and the digest of the tables after it
 abbrev pub header_flaw : List ℕ → Option MetaError
 header_flaw bytes = size_flaw bytes (header_at bytes) or_else seal_flaw bytes (header_at bytes)
 

@@ -10,7 +10,7 @@ use Rattle.super_meta.specs.TableBytes.{TableBytes}
 use Rattle.super_meta.specs.ImageText.{image_of}
 use Rattle.super_meta.specs.ImageBytes.{ImageBytes}
 use Rattle.super_meta.specs.Held.{tables_of_image, tables_flaw}
-use Rattle.super_meta.specs.Numbers.{AreBytes}
+use Rattle.fb_frame.specs.Bytes.{AreBytes}
 
 -- Bytes that begin with a geometry's 52 bytes are read as it.
 abbrev pub GeometryRead : Type 0
@@ -48,7 +48,7 @@ ImageSpelled = (bytes : List ℕ) (g : Geometry) (c : Content) → AreBytes byte
 abbrev pub SectorsOnce : Type 0
 SectorsOnce = (extents : List Extent) → IsTrue (are_apart extents) ↔ ((sector : ℕ) → count_by (has_sector sector) extents ≤ 1)
 
--- Each partition's first extent is the sum of the counts before it, and all counts together are so many.
+-- Each partition's first extent is the sum of the counts before it, and all counts together are the number of extents.
 pub record IsInTurn (extents : ℕ) (partitions : List Partition) : Type 0 where
   pub first : (i : ℕ) (p : Partition) → slice_get partitions i ≡ Some p → p.first ≡ sum_by (λ q. q.count) (take i partitions)
   pub all : sum_by (λ q. q.count) partitions ≡ extents

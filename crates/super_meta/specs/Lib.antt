@@ -1,4 +1,3 @@
-pub mod Numbers
 pub mod Sealed
 pub mod Flaws
 pub mod GeometryText

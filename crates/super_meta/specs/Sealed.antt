@@ -1,12 +1,9 @@
 -- A structure with a digest in its midst (FIPS 180-4 SHA-256; liblp metadata_format.h, checksums).
-use Rattle.std.specs.Prelude.{ℕ, List, ◌++◌, replicate}
+use Rattle.std.specs.Prelude.{ℕ, List, ◌++◌}
 use Rattle.sha2.specs.Sha256.{sha256}
+use Rattle.fb_frame.specs.Bytes.{zeros}
 
--- so many zero bytes
-unfoldable pub zeros : ℕ → List ℕ
-zeros n = replicate n 0
-
--- the digest of what stands before and behind the digest's field, which counts as zeros
+-- the digest of what stands before and after the digest's field, which counts as zeros
 unfoldable pub digest_around : List ℕ → List ℕ → List ℕ
 digest_around front back = sha256 (front ++ zeros 32 ++ back)
 

@@ -8,7 +8,8 @@ use Rattle.super_meta.specs.declared.table.Partition.{Partition}
 use Rattle.super_meta.specs.declared.table.Extent.{Extent}
 use Rattle.super_meta.specs.declared.table.Group.{Group}
 use Rattle.super_meta.specs.declared.table.BlockDevice.{BlockDevice}
-use Rattle.super_meta.specs.Sealed.{zeros, sealed}
+use Rattle.fb_frame.specs.Bytes.{zeros}
+use Rattle.super_meta.specs.Sealed.{sealed}
 use Rattle.super_meta.specs.HeaderText.{header_size}
 use Rattle.super_meta.specs.Entries.{partition_bytes, extent_bytes, group_bytes, device_bytes}
 use Rattle.super_meta.specs.Contents.{Content, tables_size, is_sound}
@@ -18,7 +19,7 @@ use Rattle.super_meta.specs.TableText.{table_size}
 unfoldable pub header_front : ℕ → List ℕ
 header_front minor = to_le_bytes w32 0x414C5030 ++ to_le_bytes w16 10 ++ to_le_bytes w16 minor ++ to_le_bytes w32 (header_size minor)
 
--- a descriptor: the place behind the header, the entries, and an entry's size
+-- a descriptor: the place after the header, the entries, and an entry's size
 unfoldable pub descriptor : ℕ → ℕ → ℕ → List ℕ
 descriptor place count size = to_le_bytes w32 place ++ to_le_bytes w32 count ++ to_le_bytes w32 size
 
@@ -41,7 +42,7 @@ unfoldable pub tables_bytes : Content → List ℕ
 tables_bytes c =
     flat_map partition_bytes c.partitions ++ flat_map extent_bytes c.extents ++ flat_map group_bytes c.groups ++ device_bytes c.device
 
--- what every version has behind the header's digest: size and digest of the lists, and the descriptors
+-- what every version has after the header's digest: size and digest of the lists, and the descriptors
 unfoldable pub header_core : Content → List ℕ → List ℕ
 header_core c digest = to_le_bytes w32 (tables_size c) ++ digest ++ descriptors c
 

@@ -1,4 +1,4 @@
--- A table's bytes: the header and, behind it, the lists of partitions, extents, groups and block
+-- A table's bytes: the header and, after it, the lists of partitions, extents, groups and block
 -- devices (liblp metadata_format.h).
 use Rattle.std.specs.Prelude.{ℕ, ◌+◌, ◌*◌, Bool, true, not, ◌&&◌, ◌||◌, List, [], ◌∷◌, map, take, drop, ◌==◌, Option, Result, if◌then◌else◌}
 use Rattle.std.specs.List.{list_all}
@@ -10,7 +10,7 @@ use Rattle.super_meta.specs.HeaderText.{header_size, header_at, lists_size, head
 use Rattle.super_meta.specs.Entries.{rows, is_zero, is_named, is_name_field, is_unset, partition_of, extent_of, group_of, device_of}
 use Rattle.super_meta.specs.Contents.{Content, tables_size, are_named_apart, are_indexed, are_laid, are_known}
 
--- the entries of each list, in the bytes behind the header
+-- the entries of each list, in the bytes after the header
 abbrev pub partition_rows : Header → List ℕ → List (List ℕ)
 partition_rows h tables = rows 52 h.partitions tables
 
@@ -53,7 +53,7 @@ kinds_hold bytes h tables =
     list_all (is_unset 8) (extent_rows h tables) && list_all (is_unset 36) (group_rows h tables) && is_unset 60 (device_row h tables)
     && reserved_hold bytes h
 
--- what is wrong with what the entries say, by the whole bytes, the header and the bytes behind it
+-- what is wrong with what the entries say, by the whole bytes, the header and the bytes after it
 abbrev pub entries_flaw : List ℕ → Header → List ℕ → Option MetaError
 entries_flaw bytes h tables =
     first_flaw
@@ -63,7 +63,7 @@ entries_flaw bytes h tables =
     ∷ (not (are_known (content_in h tables)) || not (kinds_hold bytes h tables), Unsupported)
     ∷ [])
 
--- the bytes behind a header
+-- the bytes after a header
 abbrev pub behind : List ℕ → Header → List ℕ
 behind bytes h = drop (header_size h.minor) bytes
 

@@ -1,6 +1,8 @@
 ghost use Rattle.std.specs.Prelude.{◌≡◌, ℕ, List, ◌+◌, ◌*◌, ◌<◌, ◌≤◌, length, map, nat_lt, ◌==◌, ◌^◌, bytes_eq};
 ghost use Rattle.std.specs.List.{list_all, list_any};
-ghost use Rattle.super_meta.specs.Contents.{are_distinct, take_in_turn, lies_in, shares, are_apart, are_attributes, is_version, content, are_indexed, are_laid, are_known, tables_size, is_sound};
+ghost use Rattle.fb_frame.specs.Distinct.{are_distinct};
+ghost use Rattle.fb_frame.specs.Versions.{are_attributes, is_version};
+ghost use Rattle.super_meta.specs.Contents.{take_in_turn, lies_in, shares, are_apart, content, are_indexed, are_laid, are_known, tables_size, is_sound};
 ghost use Rattle.super_meta.specs.Contents.{are_named_apart as are_apart_by_name};
 
 use crate::header::{DEVICE, EXTENT, GROUP, PARTITION};
@@ -103,7 +105,7 @@ pub fn lie_in(extents: &[Extent], device: &BlockDevice) -> bool
     extents.iter().all(|extent| extent.lies_in(device))
 }
 
-/// Whether the partitions take so many extents in turn.
+/// Whether the partitions take `extents` extents in turn.
 #[tactic(auto, using(crate::proofs::CheckLemmas::turn_steps))]
 pub fn take_in_turn(partitions: &[Partition], extents: usize) -> bool
     ensures { result ≡ take_in_turn extents 0 partitions.now }
@@ -118,7 +120,7 @@ pub fn take_in_turn(partitions: &[Partition], extents: usize) -> bool
     at == extents as u64
 }
 
-/// Whether the group of each partition is one of so many.
+/// Whether the group of each partition is one of `groups` groups.
 pub fn are_grouped(partitions: &[Partition], groups: usize) -> bool
     ensures { result ≡ list_all (λ p. nat_lt p.group groups) partitions.now }
 {

@@ -3,12 +3,12 @@ ghost use Rattle.std.specs.List.{list_all, position};
 ghost use Rattle.std.specs.Result.{result_err};
 ghost use Rattle.super_meta.specs.declared.errors.MetaError.TheVariants.{BadName};
 ghost use Rattle.super_meta.specs.Entries.{rows, row_at, is_zero, name_in, name_at, is_named, is_unset, is_name_field, partition_of, extent_of, group_of, device_of};
-ghost use Rattle.super_meta.specs.Numbers.{u32_at};
+ghost use Rattle.fb_frame.specs.Fields.{u32_at};
 
 use crate::errors::MetaError;
 use crate::header::{EXTENT, GROUP, PARTITION};
-use crate::numbers::{u32_at, u64_at};
 use crate::table::{BlockDevice, Extent, Group, Partition};
+use fb_frame::fields::{u32_at, u64_at};
 use fb_frame::name::Name;
 
 /// How many bytes the field of a name has.
@@ -102,7 +102,8 @@ impl BlockDevice {
     #[tactic(auto, unfolding(crate::specs::Entries::device_of))]
     pub fn read(row: &[u8]) -> Option<BlockDevice>
         requires { 64 ≤ length row.now }
-        ensures { result ≡ (if is_name_field (take 36 (drop 24 row.now)) then Some (device_of row.now) else None) }
+        ensures { result
+            ≡ (if is_name_field (take 36 (drop 24 row.now)) then Some (device_of row.now) else None) }
     {
         let name = name_at(&row[24..24 + NAME])?;
         Some(BlockDevice {
@@ -115,7 +116,7 @@ impl BlockDevice {
     }
 }
 
-/// Reads the entries of so many partitions into an empty list that has room for them.
+/// Reads the entries of `count` partitions into an empty list that has room for them.
 #[tactic(auto, using(crate::proofs::RowLemmas::row_steps))]
 pub fn read_partitions(
     bytes: &[u8],
@@ -125,7 +126,8 @@ pub fn read_partitions(
     requires long { 52 * count ≤ length bytes.now }
     requires empty { partitions.old.items ≡ [] }
     requires room { count ≤ vec_capacity partitions.old }
-    ensures named { result_err result ≡ (if list_all is_named (rows 52 count bytes.now) then None else Some BadName) }
+    ensures named { result_err result
+        ≡ (if list_all is_named (rows 52 count bytes.now) then None else Some BadName) }
     ensures items { OnOk result (partitions.new.items ≡ map partition_of (rows 52 count bytes.now)) }
     ensures room { vec_capacity partitions.new ≡ vec_capacity partitions.old }
 {
@@ -138,13 +140,14 @@ pub fn read_partitions(
     Ok(())
 }
 
-/// Reads the entries of so many groups into an empty list that has room for them.
+/// Reads the entries of `count` groups into an empty list that has room for them.
 #[tactic(auto, using(crate::proofs::RowLemmas::row_steps))]
 pub fn read_groups(bytes: &[u8], count: u32, groups: &mut Vec<Group>) -> Result<(), MetaError>
     requires long { 48 * count ≤ length bytes.now }
     requires empty { groups.old.items ≡ [] }
     requires room { count ≤ vec_capacity groups.old }
-    ensures named { result_err result ≡ (if list_all is_named (rows 48 count bytes.now) then None else Some BadName) }
+    ensures named { result_err result
+        ≡ (if list_all is_named (rows 48 count bytes.now) then None else Some BadName) }
     ensures items { OnOk result (groups.new.items ≡ map group_of (rows 48 count bytes.now)) }
     ensures room { vec_capacity groups.new ≡ vec_capacity groups.old }
 {
@@ -157,7 +160,7 @@ pub fn read_groups(bytes: &[u8], count: u32, groups: &mut Vec<Group>) -> Result<
     Ok(())
 }
 
-/// Reads the entries of so many extents into an empty list that has room for them.
+/// Reads the entries of `count` extents into an empty list that has room for them.
 #[tactic(auto, using(crate::proofs::RowLemmas::row_steps))]
 pub fn read_extents(bytes: &[u8], count: u32, extents: &mut Vec<Extent>)
     requires long { 24 * count ≤ length bytes.now }
@@ -171,7 +174,7 @@ pub fn read_extents(bytes: &[u8], count: u32, extents: &mut Vec<Extent>)
     }
 }
 
-/// Whether the number at a place of each of so many rows is 0.
+/// Whether the number at a place of each of `count` rows is 0.
 #[tactic(auto, using(crate::proofs::RowLemmas::row_steps))]
 pub fn are_unset(bytes: &[u8], count: u32, size: usize, place: usize) -> bool
     requires long { count * size ≤ length bytes.now }

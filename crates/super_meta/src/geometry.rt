@@ -1,12 +1,12 @@
 ghost use Rattle.std.specs.Prelude.{◌≡◌, ◌^◌, ◌<◌, ◌≤◌, ◌++◌, length, IsTrue, IfOk, Ok};
 ghost use Rattle.super_meta.specs.declared.geometry.Geometry.{Geometry};
 ghost use Rattle.super_meta.specs.GeometryText.{is_geometry, geometry_at, geometry_front, geometry_back, geometry_of, geometry_bytes, GeometryBytes};
-ghost use Rattle.super_meta.specs.Sealed.{zeros};
+ghost use Rattle.fb_frame.specs.Bytes.{zeros};
 
 use crate::errors::MetaError;
-use crate::numbers::u32_at;
 use crate::put::{clear, put, put_sealed};
 use crate::sealed::digest_around;
+use fb_frame::fields::u32_at;
 
 /// How many bytes a geometry has.
 pub const GEOMETRY: usize = 52;
@@ -33,7 +33,7 @@ impl Geometry {
         self.max_size > 0 && self.max_size % 512 == 0 && self.slots > 0 && self.block_size == 4096
     }
 
-    /// The numbers as they stand behind the digest.
+    /// The numbers as they stand after the digest.
     #[tactic(auto, using(crate::proofs::PutLemmas::wholes), unfolding(crate::specs::GeometryText::geometry_back))]
     fn back(&self) -> [u8; 12]
         ensures back { result ≡ geometry_back self.now }
@@ -48,7 +48,7 @@ impl Geometry {
         back
     }
 
-    /// The numbers behind the digest.
+    /// The numbers after the digest.
     fn at(bytes: &[u8]) -> Geometry
         requires { 52 ≤ length bytes.now }
         ensures { result ≡ geometry_at bytes.now }
@@ -103,7 +103,7 @@ pub fn read_geometry(bytes: &[u8]) -> Result<Geometry, MetaError>
     checked(bytes)
 }
 
-/// Writes the geometry at the front of a block, and zeros behind it.
+/// Writes the geometry at the front of a block, and zeros after it.
 #[tactic(auto, using(crate::proofs::PutLemmas::padded))]
 pub fn write_geometry(geometry: &Geometry, block: &mut [u8; 4096])
     requires good { IsTrue (is_geometry geometry.now) }

@@ -2,11 +2,12 @@ ghost use Rattle.std.specs.Prelude.{◌≡◌, ◌+◌, ◌*◌, ◌^◌, ◌<�
 ghost use Rattle.std.specs.Result.{result_err};
 ghost use Rattle.super_meta.specs.Flaws.{or_flaw};
 ghost use Rattle.super_meta.specs.HeaderText.{header_size, header_at, flags_at, lists_size, describes, are_described, header_holds, tables_hold, size_flaw, seal_flaw, header_of};
-ghost use Rattle.super_meta.specs.Numbers.{u16_at, u32_at};
+ghost use Rattle.fb_frame.specs.Fields.{u16_at, u32_at};
 
 use crate::errors::MetaError;
-use crate::numbers::{u16_at, u32_at};
-use crate::sealed::{digest, digest_around};
+use crate::sealed::digest_around;
+use fb_frame::digest::digest;
+use fb_frame::fields::{u16_at, u32_at};
 
 /// How many bytes the header of versions 10.0 and 10.1 has.
 pub const HEADER: usize = 128;
@@ -30,7 +31,7 @@ pub const MAGIC: u32 = 0x414C_5030;
 
 pub const MAJOR: u16 = 10;
 
-/// What a header tells of the tables behind it: version and flags, and how many entries each has.
+/// What a header tells of the tables after it: version and flags, and how many entries each has.
 #[derive(Clone, Copy, Debug, PartialEq, Eq)]
 pub struct Header {
     pub minor: u16,
@@ -87,8 +88,10 @@ impl Header {
     fn sized(bytes: &[u8]) -> Result<Header, MetaError>
         ensures header { result ≡ or_flaw (size_flaw bytes.now (header_at bytes.now)) (header_at bytes.now) }
         ensures minor { IfOk result (λ header. header.minor ≤ 2) }
-        ensures long { IfOk result (λ header. header_size header.minor + u32_at 44 bytes.now ≤ length bytes.now) }
-        ensures tables { IfOk result (λ header. u32_at 44 bytes.now ≡ lists_size header + 64 * u32_at 120 bytes.now) }
+        ensures long { IfOk result
+            (λ header. header_size header.minor + u32_at 44 bytes.now ≤ length bytes.now) }
+        ensures tables { IfOk result
+            (λ header. u32_at 44 bytes.now ≡ lists_size header + 64 * u32_at 120 bytes.now) }
     {
         if bytes.len() < HEADER {
             return Err(MetaError::ShortInput);
@@ -174,7 +177,8 @@ impl Header {
     pub fn read(bytes: &[u8]) -> Result<Header, MetaError>
         ensures header { result ≡ header_of bytes.now }
         ensures minor { IfOk result (λ header. header.minor ≤ 2) }
-        ensures long { IfOk result (λ header. header_size header.minor + (lists_size header + 64) ≤ length bytes.now) }
+        ensures long { IfOk result
+            (λ header. header_size header.minor + (lists_size header + 64) ≤ length bytes.now) }
     {
         let header = Header::sized(bytes)?;
         header.check_seals(bytes)?;

@@ -1,9 +1,10 @@
 ghost use Rattle.std.specs.Prelude.{◌≡◌, ◌<◌, length, map, nat_lt, true, ◌==◌, Some, None, if◌then◌else◌, IfOk};
 ghost use Rattle.std.specs.List.{list_all};
+ghost use Rattle.super_meta.specs.declared.errors.MetaError.TheVariants.{Unsupported};
 ghost use Rattle.super_meta.specs.Contents.{content};
-ghost use Rattle.super_meta.specs.Held.{listed, limited, roomed, based, tables_in, tables_of_image};
+ghost use Rattle.super_meta.specs.Held.{listed, limited, roomed, based, tables_in, tables_of_image, tables_flaw};
 
-use crate::errors::ReadError;
+use crate::errors::{MetaError, ReadError};
 use crate::geometry::Geometry;
 use crate::image::{LONGEST, read_empty_image};
 use crate::table::{BlockDevice, Group, Partition, Table};
@@ -96,7 +97,9 @@ impl Table {
     /// table has an extent.
     fn tables(&self, alloc: Global, geometry: &Geometry) -> Result<Option<Tables>, Memory>
         requires grouped { list_all (λ p. nat_lt p.group (length self.now.groups.items)) self.now.partitions.items ≡ true }
-        ensures { IfOk result (λ tables. tables ≡ (if length self.now.extents.items == 0 then Some (tables_in geometry.now (content self.now)) else None)) }
+        ensures { IfOk result (λ tables. tables
+            ≡ (if length self.now.extents.items == 0
+            then Some (tables_in geometry.now (content self.now)) else None)) }
     {
         if !self.extents.is_empty() {
             return Ok(None);
@@ -124,6 +127,31 @@ pub fn tables_of_image(alloc: Global, file: &[u8]) -> Result<Option<Tables>, Mem
     match read_empty_image(alloc, file) {
         Ok((geometry, table)) => table.tables(alloc, &geometry),
         Err(ReadError::Bad(_)) => Ok(None),
+        Err(ReadError::Memory) => Err(Memory),
+    }
+}
+
+impl Table {
+    /// Why nothing is taken of the table: it has an extent.
+    fn extent_flaw(&self) -> Option<MetaError>
+        ensures { result ≡ (if length self.now.extents.items == 0 then None else Some Unsupported) }
+    {
+        if self.extents.is_empty() {
+            None
+        } else {
+            Some(MetaError::Unsupported)
+        }
+    }
+}
+
+/// Why a file holds no tables for a device that takes them, apart from its length: the first thing that is
+/// wrong with it as an image of an empty super, or else `Unsupported` where it has an extent.
+pub fn tables_flaw(alloc: Global, file: &[u8]) -> Result<Option<MetaError>, Memory>
+    ensures flaw { IfOk result (λ flaw. flaw ≡ tables_flaw file.now) }
+{
+    match read_empty_image(alloc, file) {
+        Ok((_, table)) => Ok(table.extent_flaw()),
+        Err(ReadError::Bad(flaw)) => Ok(Some(flaw)),
         Err(ReadError::Memory) => Err(Memory),
     }
 }

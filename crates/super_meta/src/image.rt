@@ -57,7 +57,8 @@ pub fn read_empty_image(alloc: Global, bytes: &[u8]) -> Result<(Geometry, Table)
     ensures image { IfOk result (λ image. image_of bytes.now ≡ Ok (image.0, content image.1)) }
     ensures flaw { (flaw : MetaError) → IsErrOf result (ReadError.Bad flaw) → image_of bytes.now ≡ Err flaw }
     ensures found { IfOk result (λ image. ImageBytes image.0 (content image.1) bytes.now) }
-    ensures only { (flaw : MetaError) → IsErrOf result (ReadError.Bad flaw) → (g : Geometry) (c : Content) → ¬ ImageBytes g c bytes.now }
+    ensures only { (flaw : MetaError) → IsErrOf result (ReadError.Bad flaw)
+        → (g : Geometry) (c : Content) → ¬ ImageBytes g c bytes.now }
 {
     image_in(alloc, bytes)
 }

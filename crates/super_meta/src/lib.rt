@@ -12,7 +12,6 @@ pub mod geometry;
 mod header;
 pub mod held;
 pub mod image;
-mod numbers;
 mod put;
 pub mod reading;
 mod sealed;

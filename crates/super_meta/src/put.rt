@@ -1,9 +1,10 @@
 ghost use Rattle.std.specs.Prelude.{◌≡◌, ℕ, ◌+◌, ◌≤◌, ◌++◌, length, take, drop};
-ghost use Rattle.super_meta.specs.Sealed.{zeros, sealed};
+ghost use Rattle.fb_frame.specs.Bytes.{zeros};
+ghost use Rattle.super_meta.specs.Sealed.{sealed};
 
 use crate::sealed::digest_around;
 
-/// Writes bytes at a place, and answers the place behind them.
+/// Writes bytes at a place, and answers the place after them.
 #[tactic(auto, using(crate::proofs::PutLemmas::puts))]
 pub fn put(buf: &mut [u8], at: usize, bytes: &[u8]) -> usize
     requires { at + length bytes.now ≤ length buf.old }
@@ -16,7 +17,7 @@ pub fn put(buf: &mut [u8], at: usize, bytes: &[u8]) -> usize
     end
 }
 
-/// Writes a front and a back with the digest of both between them, and answers the place behind.
+/// Writes a front and a back with the digest of both between them, and answers the place after them.
 pub fn put_sealed(buf: &mut [u8], at: usize, front: &[u8], back: &[u8]) -> usize
     requires { at + (length front.now + 32 + length back.now) ≤ length buf.old }
     ensures at { result ≡ at + (length front.now + 32 + length back.now) }
@@ -29,15 +30,15 @@ pub fn put_sealed(buf: &mut [u8], at: usize, front: &[u8], back: &[u8]) -> usize
 }
 
 /// Fills a buffer with zeros.
-#[tactic(auto, unfolding(crate::specs::Sealed::zeros))]
+#[tactic(auto, unfolding(fb_frame::specs::Bytes::zeros))]
 pub fn clear(buf: &mut [u8])
     ensures { buf.new ≡ zeros (length buf.old) }
 {
     buf.fill(0);
 }
 
-/// Writes so many zeros at a place, and answers the place behind them.
-#[tactic(auto, using(crate::proofs::PutLemmas::puts), unfolding(crate::specs::Sealed::zeros))]
+/// Writes `count` zeros at a place, and answers the place after them.
+#[tactic(auto, using(crate::proofs::PutLemmas::puts), unfolding(fb_frame::specs::Bytes::zeros))]
 pub fn put_zeros(buf: &mut [u8], at: usize, count: usize) -> usize
     requires { at + count ≤ length buf.old }
     ensures at { result ≡ at + count }

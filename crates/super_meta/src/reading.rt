@@ -11,13 +11,13 @@ ghost use Rattle.super_meta.specs.TableText.{content_in, names_hold, sources_hol
 use crate::entries::{are_unset, are_zeros, read_extents, read_groups, read_partitions};
 use crate::errors::{MetaError, ReadError};
 use crate::header::{DEVICE, EXTENT, GROUP, Header, PARTITION, header_size};
-use crate::numbers::u32_at;
 use crate::table::{BlockDevice, Table};
+use fb_frame::fields::u32_at;
 use fb_frame::name::Name;
 use std::alloc::{AllocError, Global};
 
 impl Header {
-    /// The entries of the extents, and what follows them, in the bytes behind the header.
+    /// The entries of the extents, and what follows them, in the bytes after the header.
     fn extents_in<'a>(&self, tables: &'a [u8]) -> &'a [u8]
         requires { lists_size self.now ≤ length tables.now }
         ensures extents { result.now ≡ drop (52 * self.now.partitions) tables.now }
@@ -47,14 +47,15 @@ impl Header {
 }
 
 impl Table {
-    /// Reads the entries of the bytes behind a header into the lists, which have room for them.
+    /// Reads the entries of the bytes after a header into the lists, which have room for them.
     #[tactic(auto, unfolding(crate::specs::TableText::content_in, crate::specs::TableText::names_hold))]
     pub(crate) fn fill(&mut self, header: &Header, tables: &[u8]) -> Result<(), MetaError>
         requires long { lists_size header.now + 64 ≤ length tables.now }
         requires partitions { header.now.partitions ≤ vec_capacity self.old.partitions }
         requires extents { header.now.extents ≤ vec_capacity self.old.extents }
         requires groups { header.now.groups ≤ vec_capacity self.old.groups }
-        ensures named { result_err result ≡ (if names_hold header.now tables.now then None else Some BadName) }
+        ensures named { result_err result
+            ≡ (if names_hold header.now tables.now then None else Some BadName) }
         ensures content { OnOk result (content self.new ≡ content_in header.now tables.now) }
         ensures partitions { vec_capacity self.new.partitions ≡ vec_capacity self.old.partitions }
         ensures extents { vec_capacity self.new.extents ≡ vec_capacity self.old.extents }
@@ -100,7 +101,7 @@ impl Table {
         Ok(())
     }
 
-    /// Reads what stands behind a header that was read of the same bytes.
+    /// Reads the lists after a header that was read of the same bytes.
     #[tactic(auto, using(crate::proofs::FoundLemmas::sizes))]
     pub(crate) fn take_from(&mut self, bytes: &[u8], header: &Header) -> Result<(), MetaError>
         requires long { header_size header.now.minor + (lists_size header.now + 64) ≤ length bytes.now }
@@ -108,7 +109,8 @@ impl Table {
         requires extents { header.now.extents ≤ vec_capacity self.old.extents }
         requires groups { header.now.groups ≤ vec_capacity self.old.groups }
         ensures flaw { result_err result ≡ entries_flaw bytes.now header.now (behind bytes.now header.now) }
-        ensures content { OnOk result (content self.new ≡ content_in header.now (behind bytes.now header.now)) }
+        ensures content { OnOk result
+            (content self.new ≡ content_in header.now (behind bytes.now header.now)) }
         ensures end { OnOk result (table_size (content self.new) ≤ length bytes.now) }
         ensures partitions { vec_capacity self.new.partitions ≡ vec_capacity self.old.partitions }
         ensures extents { vec_capacity self.new.extents ≡ vec_capacity self.old.extents }
@@ -131,7 +133,7 @@ impl Table {
             + DEVICE
     }
 
-    /// A table with room for so many partitions, extents and groups, which says nothing yet.
+    /// A table with room for these numbers of partitions, extents and groups, which says nothing yet.
     pub(crate) fn with_room(
         alloc: Global,
         partitions: usize,
@@ -220,7 +222,8 @@ pub fn read_table(alloc: Global, bytes: &[u8]) -> Result<Table, ReadError>
     ensures table { IfOk result (λ table. table_of bytes.now ≡ Ok (content table)) }
     ensures flaw { (flaw : MetaError) → IsErrOf result (ReadError.Bad flaw) → table_of bytes.now ≡ Err flaw }
     ensures found { IfOk result (λ table. TableBytes (content table) bytes.now) }
-    ensures only { (flaw : MetaError) → IsErrOf result (ReadError.Bad flaw) → (c : Content) → ¬ TableBytes c bytes.now }
+    ensures only { (flaw : MetaError) → IsErrOf result (ReadError.Bad flaw)
+        → (c : Content) → ¬ TableBytes c bytes.now }
     ensures end { IfOk result (λ table. table_size (content table) ≤ length bytes.now) }
 {
     table_in(alloc, bytes)

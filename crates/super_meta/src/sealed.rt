@@ -1,18 +1,11 @@
 ghost use Rattle.std.specs.Prelude.{◌≡◌};
-ghost use Rattle.sha2.specs.Sha256.{sha256};
-ghost use Rattle.super_meta.specs.Sealed.{zeros, digest_around};
+ghost use Rattle.fb_frame.specs.Bytes.{zeros};
+ghost use Rattle.super_meta.specs.Sealed.{digest_around};
 
 use sha2::{Digest, Sha256};
 
-/// The SHA-256 digest of the bytes (FIPS 180-4).
-pub fn digest(bytes: &[u8]) -> [u8; 32]
-    ensures { result ≡ sha256 bytes.now }
-{
-    Sha256::digest(bytes)
-}
-
 /// The SHA-256 digest of a structure in whose midst the digest itself stands, as zeros (FIPS 180-4).
-#[tactic(auto, unfolding(crate::specs::Sealed::digest_around, crate::specs::Sealed::zeros))]
+#[tactic(auto, unfolding(crate::specs::Sealed::digest_around, fb_frame::specs::Bytes::zeros))]
 pub fn digest_around(front: &[u8], back: &[u8]) -> [u8; 32]
     ensures { result ≡ digest_around front.now back.now }
 {

@@ -11,12 +11,12 @@ ghost use Rattle.super_meta.specs.Contents.{content, tables_size, is_sound};
 use crate::entries::NAME;
 use crate::header::{DEVICE, EXTENT, GROUP, MAGIC, MAJOR, PARTITION, header_size};
 use crate::put::{put, put_zeros};
-use crate::sealed::digest;
 use crate::table::{BlockDevice, Extent, Group, Partition, Table};
+use fb_frame::digest::digest;
 use fb_frame::name::Name;
 use thiserror::Error;
 
-/// The field of a name: the name, and zeros behind it.
+/// The field of a name: the name, and zeros after it.
 fn name_field(name: &Name) -> [u8; 36]
     ensures field { result ≡ name_field name.now }
     ensures name { IsName name.now }
@@ -109,7 +109,7 @@ impl BlockDevice {
     }
 }
 
-/// Writes the entries of the partitions at a place, and answers the place behind them.
+/// Writes the entries of the partitions at a place, and answers the place after them.
 fn put_partitions(buf: &mut [u8], at: usize, partitions: &[Partition]) -> usize
     requires { at + 52 * length partitions.now ≤ length buf.old }
     ensures at { result ≡ at + 52 * length partitions.now }
@@ -124,7 +124,7 @@ fn put_partitions(buf: &mut [u8], at: usize, partitions: &[Partition]) -> usize
     place
 }
 
-/// Writes the entries of the extents at a place, and answers the place behind them.
+/// Writes the entries of the extents at a place, and answers the place after them.
 fn put_extents(buf: &mut [u8], at: usize, extents: &[Extent]) -> usize
     requires { at + 24 * length extents.now ≤ length buf.old }
     ensures at { result ≡ at + 24 * length extents.now }
@@ -139,7 +139,7 @@ fn put_extents(buf: &mut [u8], at: usize, extents: &[Extent]) -> usize
     place
 }
 
-/// Writes the entries of the groups at a place, and answers the place behind them.
+/// Writes the entries of the groups at a place, and answers the place after them.
 fn put_groups(buf: &mut [u8], at: usize, groups: &[Group]) -> usize
     requires { at + 48 * length groups.now ≤ length buf.old }
     ensures at { result ≡ at + 48 * length groups.now }
@@ -154,7 +154,7 @@ fn put_groups(buf: &mut [u8], at: usize, groups: &[Group]) -> usize
     place
 }
 
-/// A descriptor of a list: its place behind the header, how many entries it has, and their size.
+/// A descriptor of a list: its place after the header, how many entries it has, and their size.
 #[tactic(auto, using(crate::proofs::PutLemmas::wholes), unfolding(crate::specs::TableBytes::descriptor))]
 fn descriptor(place: usize, count: usize, size: usize) -> [u8; 12]
     requires place { place < 2 ^ 32 }
@@ -205,7 +205,7 @@ impl Table {
         bytes
     }
 
-    /// What every version has behind the header's digest.
+    /// What every version has after the header's digest.
     #[tactic(auto, using(crate::proofs::PutLemmas::wholes), unfolding(crate::specs::TableBytes::header_core))]
     fn header_core(&self, size: u32, digest: &[u8; 32]) -> [u8; 84]
         requires size { size ≡ tables_size (content self.now) }
@@ -218,7 +218,7 @@ impl Table {
         core
     }
 
-    /// Writes the flags and the reserved bytes of version 10.2 at a place, and answers the place behind them.
+    /// Writes the flags and the reserved bytes of version 10.2 at a place, and answers the place after them.
     #[tactic(auto, using(crate::proofs::WriteLemmas::groups), unfolding(crate::specs::TableBytes::flags_bytes))]
     fn put_flags(&self, buf: &mut [u8], at: usize) -> usize
         requires { at + header_size self.now.minor ≤ length buf.old + 128 }
@@ -239,7 +239,9 @@ impl Table {
     fn put_header(&self, buf: &mut [u8], size: u32, lists: &[u8; 32])
         requires size { size ≡ tables_size (content self.now) }
         requires room { header_size self.now.minor ≤ length buf.old }
-        ensures header { take (header_size self.now.minor) buf.new ≡ sealed (header_front self.now.minor) (header_core (content self.now) lists.now ++ flags_bytes (content self.now)) }
+        ensures header { take (header_size self.now.minor) buf.new
+            ≡ sealed (header_front self.now.minor)
+            (header_core (content self.now) lists.now ++ flags_bytes (content self.now)) }
         ensures flags { self.now.flags < 2 ^ 32 }
         ensures rest { (n : ℕ) → header_size self.now.minor ≤ n → drop n buf.new ≡ drop n buf.old }
     {
@@ -251,7 +253,7 @@ impl Table {
         put(buf, 12, &seal);
     }
 
-    /// Writes the lists at a place, and answers the place behind them.
+    /// Writes the lists at a place, and answers the place after them.
     #[tactic(auto, using(crate::proofs::WriteLemmas::groups), unfolding(crate::specs::TableBytes::tables_bytes, crate::specs::TableBytes::lists_fit))]
     fn put_tables(&self, buf: &mut [u8], at: usize) -> usize
         requires { at + tables_size (content self.now) ≤ length buf.old }
@@ -277,9 +279,11 @@ pub struct TooLong;
 pub fn write_table(table: &Table, buf: &mut [u8]) -> Result<usize, TooLong>
     requires sound { IsTrue (is_sound (content table.now)) }
     ensures size { IfOk result (λ size. size ≡ table_size (content table.now)) }
-    ensures bytes { OnOk result (take (table_size (content table.now)) buf.new ≡ table_bytes (content table.now)) }
+    ensures bytes { OnOk result
+        (take (table_size (content table.now)) buf.new ≡ table_bytes (content table.now)) }
     ensures again { OnOk result (TableBytes (content table.now) buf.new) }
-    ensures rest { OnOk result (drop (table_size (content table.now)) buf.new ≡ drop (table_size (content table.now)) buf.old) }
+    ensures rest { OnOk result (drop (table_size (content table.now)) buf.new
+        ≡ drop (table_size (content table.now)) buf.old) }
     ensures fits { OnOk result (table_size (content table.now) ≤ length buf.old) }
     ensures long { OnErr result (length buf.old < table_size (content table.now)) }
     ensures kept { OnErr result (buf.new ≡ buf.old) }

@@ -9,8 +9,9 @@ use Rattle.fb_frame.specs.declared.tables.Tables.{Tables}
 use Rattle.super_meta.specs.declared.geometry.Geometry.{Geometry}
 use Rattle.super_meta.specs.declared.table.Partition.{Partition}
 use Rattle.super_meta.specs.declared.table.Group.{Group}
-use Rattle.super_meta.specs.Contents.{Content, are_named_apart, are_known, are_attributes}
-use Rattle.super_meta.specs.Contents.{are_distinct as are_apart}
+use Rattle.fb_frame.specs.Versions.{are_attributes}
+use Rattle.super_meta.specs.Contents.{Content, are_named_apart, are_known}
+use Rattle.fb_frame.specs.Distinct.{are_distinct as are_apart}
 use Rattle.super_meta.specs.Held.{group_name, listed, limited, tables_in}
 use Rattle.super_meta.proofs.NameLemmas.{both, bothly}
 use Rattle.super_meta.proofs.HeldLemmas.{IsRead, held-read, all-there}

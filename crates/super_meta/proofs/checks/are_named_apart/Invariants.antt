@@ -1,5 +1,5 @@
 use Rattle.std.proofs.Common.{◌≡◌, map, drop}
-use Rattle.super_meta.specs.Contents.{are_distinct}
+use Rattle.fb_frame.specs.Distinct.{are_distinct}
 use Rattle.super_meta.proofs.checks.are_named_apart.Given as goal
 
 abbrev pub invariant-loop-i : goal.invariant-loop-i

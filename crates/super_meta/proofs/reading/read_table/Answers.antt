@@ -3,7 +3,7 @@ use Rattle.std.specs.Prelude.{IfOk}
 use Rattle.super_meta.specs.declared.errors.MetaError.{MetaError}
 use Rattle.super_meta.specs.declared.errors.ReadError.{ReadError}
 use Rattle.super_meta.specs.declared.table.Table.{Table}
-use Rattle.super_meta.specs.Numbers.{AreBytes}
+use Rattle.fb_frame.specs.Bytes.{AreBytes}
 use Rattle.super_meta.specs.Contents.{Content, content}
 use Rattle.super_meta.specs.TableText.{table_of}
 use Rattle.super_meta.specs.TableBytes.{TableBytes}

@@ -2,7 +2,7 @@ use Rattle.std.proofs.Common.{◌≡◌, ◌-◌, ◌++◌, length, take, sym, a
 use Rattle.sha2.specs.Sha256.{sha256}
 use Rattle.sha2.proofs.Facts256.{length-sha256}
 use Rattle.super_meta.specs.HeaderText.{header_size}
-use Rattle.super_meta.specs.Sealed.{zeros}
+use Rattle.fb_frame.specs.Bytes.{zeros}
 use Rattle.super_meta.specs.Contents.{content}
 use Rattle.super_meta.specs.TableBytes.{header_front, header_core, flags_bytes}
 use Rattle.super_meta.proofs.WriteLemmas.{head-sealed, length-header_front, length-header_core, over}
