@@ -40,9 +40,9 @@ impl<D: ProductDir> Bytes for DirBytes<'_, D> {
 
     ghost faults = { λ s. D.faults s.dir.now };
 
-    ghost Kept = { GName × Bool × Option (List ℕ) × Option Files × D.Kept };
+    ghost Lent = { GName × Bool × Option (List ℕ) × Option Files × D.Kept };
 
-    ghost kept = { λ s. (s.dir.ghost_name, D.entered s.dir.now, D.told_path s.dir.now, D.files s.dir.now, D.kept s.dir.now) };
+    ghost lent = { λ s. (s.dir.ghost_name, D.entered s.dir.now, D.told_path s.dir.now, D.files s.dir.now, D.kept s.dir.now) };
 
     fn len(&self) -> u64 {
         self.len

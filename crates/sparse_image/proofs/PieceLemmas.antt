@@ -1,10 +1,10 @@
 -- Each piece is a file with an image, and the pieces put over in order are the whole.
-use Rattle.std.proofs.Common.{◌≡◌, ℕ, ◌-◌, ◌*◌, ◌<◌, ◌≤◌, min, List, [], ◌∷◌, ◌++◌, length, take, drop, replicate, length-append, Some, Ok, refl, sym, ap, ◌∙◌, arith, ⊎_elim, zero-mul}
+use Rattle.std.proofs.Common.{◌≡◌, ℕ, ◌+◌, ◌-◌, ◌*◌, ◌<◌, ◌≤◌, min, List, [], ◌∷◌, ◌++◌, length, take, drop, replicate, length-append, Some, Ok, refl, sym, ap, ◌∙◌, arith, ⊎_elim, zero-mul}
 use Rattle.std.specs.Prelude.{◌^◌, ◌%◌}
 use Rattle.std.specs.List.{flat_map, sum_by, All}
 use Rattle.std.proofs.Math.Nat.{mul-le-mul_right}
 use Rattle.std.proofs.lemmas.Bool.Decides.{leb_tells, eqb_tells}
-use Rattle.std.proofs.lemmas.List.{append-nil, drop_all, take-append-drop}
+use Rattle.std.proofs.lemmas.List.{append-nil, drop_all, take_all, take-append-drop, take-take, drop-take, length-take-le}
 use Rattle.std.proofs.lemmas.List.Concat.{flat_map-append}
 use Rattle.std.proofs.lemmas.List.Sums.{sum_by-cons, sum_by-append}
 use Rattle.std.proofs.lemmas.List.Elements.{All-nil, All-cons, All-head, All-tail, All-append}
@@ -16,7 +16,7 @@ use Rattle.sparse_image.specs.declared.chunk.Content.{Content}
 use Rattle.sparse_image.specs.declared.chunk.Content.TheVariants.{Raw, Fill, DontCare}
 use Rattle.sparse_image.specs.Walks.{Kept, checked, kept_cells, source_of, cells_of, chunk_len, LiesIn, HasFour}
 use Rattle.sparse_image.specs.Pieces.{first_blocks, behind_blocks, content_behind, hole, piece_chunks, piece_cells, put_pieces, Rise}
-use Rattle.sparse_image.specs.Laws.{PieceImage, PieceLength, PiecesPut}
+use Rattle.sparse_image.specs.Laws.{PieceImage, PieceLength, PiecesPut, PiecesFront}
 use Rattle.sparse_image.proofs.CutLemmas.{IsChunk, first-cells, behind-cells, chunk-cells-long}
 use Rattle.sparse_image.proofs.KeptLemmas.{kept-well}
 use Rattle.sparse_image.proofs.SpellLemmas.{IsSpelled, spelled-image}
@@ -171,21 +171,38 @@ piece-length file kept first last h l m =
     ∙ ap (λ (n : ℕ). n * kept.block) (piece-total kept first last w.chunks.total l m)
     ∙ sym (kept-long file kept h)
 
-put-from : (file : List ℕ) (kept : Kept) (places : List ℕ) (first : ℕ) (old : List ℕ) → length (kept_cells kept file) ≡ kept.blocks * kept.block → Rise first places kept.blocks → first ≤ kept.blocks → length (kept_cells kept file) ≤ length old →
-    put_pieces kept file first places old ≡ take (first * kept.block) old ++ over (drop (first * kept.block) (kept_cells kept file)) (drop (first * kept.block) old)
-put-from file kept [] first old e r f l =
-    let n : length (kept_cells kept file) ≤ first * kept.block = rw r (omega (arith, e)) in
-    sym (ap (λ (xs : List Cell). take (first * kept.block) old ++ over xs (drop (first * kept.block) old)) (drop_all (first * kept.block) (kept_cells kept file) n) ∙ take-append-drop (first * kept.block) old)
-put-from file kept (last ∷ places) first old e r f l =
+-- a part of a front
+middle-of : (a m e : ℕ) (cells : List Cell) → a + m ≤ e → take m (drop a (take e cells)) ≡ take m (drop a cells)
+middle-of a m e cells h =
+    let n : e ≡ a + (e - a) = omega arith in
+    ap (λ (x : ℕ). take m (drop a (take x cells))) n ∙ ap (λ (xs : List Cell). take m xs) (drop-take a (e - a) cells) ∙ take-take m (e - a) (drop a cells) (omega arith)
+
+put-from : (file : List ℕ) (kept : Kept) (end : ℕ) (front : List Cell) (places : List ℕ) (first : ℕ) (old : List ℕ) → front ≡ take (end * kept.block) (kept_cells kept file) → length front ≡ end * kept.block → Rise first places end → first ≤ end → end * kept.block ≤ length old →
+    put_pieces kept file first places old ≡ take (first * kept.block) old ++ over (drop (first * kept.block) front) (drop (first * kept.block) old)
+put-from file kept end front [] first old q e r f l =
+    let n : length front ≤ first * kept.block = rw r (omega (arith, e)) in
+    sym (ap (λ (xs : List Cell). take (first * kept.block) old ++ over xs (drop (first * kept.block) old)) (drop_all (first * kept.block) front n) ∙ take-append-drop (first * kept.block) old)
+put-from file kept end front (last ∷ places) first old q e r f l =
     let block = kept.block in
-    let now = over (piece_cells kept file first last) old in
-    let same = over_length (piece_cells kept file first last) old in
+    let own = replicate (first * block) Skip ++ (take ((last - first) * block) (drop (first * block) front) ++ replicate ((kept.blocks - last) * block) Skip) in
     let s = spent last first (last - first) block (omega (arith, r.0)) in
     let below = mul-le-mul_right block r.1 in
-    put-from file kept places last now e r.2 r.1 (omega (arith, same, l))
-    ∙ middle-put (first * block) ((last - first) * block) (last * block) ((kept.blocks - last) * block) (kept_cells kept file) old (sym s) (omega (arith, e, below)) l
+    let same : piece_cells kept file first last ≡ own =
+        sym (ap (λ (xs : List Cell). replicate (first * block) Skip ++ (xs ++ replicate ((kept.blocks - last) * block) Skip))
+        (ap (λ (xs : List Cell). take ((last - first) * block) (drop (first * block) xs)) q ∙ middle-of (first * block) ((last - first) * block) (end * block) (kept_cells kept file) (omega (arith, s, below)))) in
+    ap (λ (xs : List Cell). put_pieces kept file last places (over xs old)) same
+    ∙ put-from file kept end front places last (over own old) q e r.2 r.1 (omega (arith, over_length own old, l))
+    ∙ middle-put (first * block) ((last - first) * block) (last * block) ((kept.blocks - last) * block) front old (sym s) (omega (arith, e, below)) (omega (arith, e, l))
+
+pub pieces-front : PiecesFront
+pieces-front file kept end places old h r e l =
+    let long = kept-long file kept h in
+    let below = mul-le-mul_right kept.block e in
+    let front = take (end * kept.block) (kept_cells kept file) in
+    put-from file kept end front places 0 old refl (length-take-le (end * kept.block) (kept_cells kept file) (omega (arith, long, below))) r (omega arith) (omega (arith, long, below, l))
+    ∙ ap (λ (n : ℕ). take n old ++ over (drop n front) (drop n old)) (zero-mul kept.block)
 
 pub pieces-put : PiecesPut
 pieces-put file kept places old h r l =
-    put-from file kept places 0 old (kept-long file kept h) r (omega arith) l
-    ∙ ap (λ (n : ℕ). take n old ++ over (drop n (kept_cells kept file)) (drop n old)) (zero-mul kept.block)
+    pieces-front file kept kept.blocks places old h r (omega arith) l
+    ∙ ap (λ (xs : List Cell). over xs old) (take_all (kept.blocks * kept.block) (kept_cells kept file) (omega (arith, kept-long file kept h)))

@@ -1,10 +1,11 @@
 -- Pieces that are put over one after another.
 use Rattle.std.proofs.Common.{◌≡◌, ℕ, zero, suc, ◌+◌, ◌-◌, ◌≤◌, List, [], ◌∷◌, ◌++◌, length, take, drop, replicate, length-append, refl, sym, ap, ◌∙◌, arith}
+use Rattle.std.proofs.Math.Seq.{take-append-add}
 use Rattle.std.proofs.lemmas.List.{append-nil, take-append-drop, length-replicate}
 use Rattle.dev_model.proofs.Runs.{over_length}
 use Rattle.sparse_image.specs.declared.runs.Run.{Run}
-use Rattle.sparse_image.specs.Runs.{Left, run_at, run_cells, AreGiven, put_runs}
-use Rattle.sparse_image.specs.Laws.{RunsPut}
+use Rattle.sparse_image.specs.Runs.{Left, run_at, run_cells, AreGiven, AreGivenSoFar, put_runs}
+use Rattle.sparse_image.specs.Laws.{RunsPut, RunsFront}
 use Rattle.dev_model.specs.Images.{over}
 use Rattle.dev_model.specs.declared.cells.Cell.{Cell}
 use Rattle.dev_model.specs.declared.cells.Cell.TheVariants.{Byte, Skip}
@@ -77,3 +78,41 @@ given-put (run ∷ runs) left old g h =
 pub runs-put : RunsPut
 runs-put file left runs old i g h =
     given-put runs left old g (omega (arith, i.at, h)) ∙ ap (λ (n : ℕ). take n old ++ over left.cells (drop n old)) i.at
+
+given-later : (runs : List Run) (before now : Left) → AreGivenSoFar before runs now → before.at ≤ now.at
+given-later [] before now g = omega (arith, ap (λ (left : Left). left.at) g)
+given-later (run ∷ runs) before now (next, (gives, more)) = omega (arith, gives.later, gives.at, given-later runs next now more)
+
+-- a front that ends after a run's cells
+run-take : (gap m n : ℕ) (own rest : List Cell) → m ≡ gap + (length own + n) → take m (replicate gap Skip ++ (own ++ rest)) ≡ replicate gap Skip ++ (own ++ take n rest)
+run-take zero m n own rest e = let k : m ≡ length own + n = omega (arith, e) in rw k (take-append-add own rest n)
+run-take (suc gap) zero n own rest e = absurd (omega (arith, e))
+run-take (suc gap) (suc m) n own rest e = ap (λ (xs : List Cell). Skip ∷ xs) (run-take gap m n own rest (omega (arith, e)))
+
+front-given : (runs : List Run) (left now : Left) (old : List ℕ) → AreGivenSoFar left runs now → left.at + length left.cells ≤ length old →
+    put_runs runs old ≡ take left.at old ++ over (take (now.at - left.at) left.cells) (drop left.at old)
+front-given [] left now old g h =
+    let none : now.at - left.at ≡ 0 = omega (arith, ap (λ (l : Left). l.at) g) in
+    sym (ap (λ (n : ℕ). take left.at old ++ over (take n left.cells) (drop left.at old)) none ∙ take-append-drop left.at old)
+front-given (run ∷ runs) left now old (next, (gives, more)) h =
+    let gap = run_at run - left.at in
+    let own = run_cells run in
+    let more_cells = take (now.at - next.at) next.cells in
+    let whole = ap length gives.cells ∙ length-append (replicate gap Skip) (own ++ next.cells) in
+    let after = given-later runs next now more in
+    let n : next.at ≤ length old = omega (arith, h, whole, length-append own next.cells, length-replicate gap Skip, gives.at, gives.later) in
+    let long : next.at + length next.cells ≤ length old = omega (arith, h, whole, length-append own next.cells, length-replicate gap Skip, gives.at, gives.later) in
+    let same = over_length (replicate (run_at run) Skip ++ own) old in
+    let count : now.at - left.at ≡ gap + (length own + (now.at - next.at)) = omega (arith, gives.at, gives.later, after) in
+    let front : replicate gap Skip ++ (own ++ more_cells) ≡ take (now.at - left.at) left.cells =
+        sym (ap (λ (xs : List Cell). take (now.at - left.at) xs) gives.cells ∙ run-take gap (now.at - left.at) (now.at - next.at) own next.cells count) in
+    front-given runs next now (over (replicate (run_at run) Skip ++ own) old) more (omega (arith, same, long))
+    ∙ run-place left.at gap (run_at run) next.at own more_cells old (omega (arith, gives.later)) gives.at n
+    ∙ ap (λ (xs : List Cell). take left.at old ++ over xs (drop left.at old)) front
+
+pub runs-front : RunsFront
+runs-front file left now runs old i g h =
+    let zero_at : now.at - left.at ≡ now.at = omega (arith, i.at) in
+    front-given runs left now old g (omega (arith, i.at, h))
+    ∙ ap (λ (n : ℕ). take left.at old ++ over (take n left.cells) (drop left.at old)) zero_at
+    ∙ ap (λ (n : ℕ). take n old ++ over (take now.at left.cells) (drop n old)) i.at

@@ -15,7 +15,7 @@ use Rattle.sparse_image.specs.declared.runs.Run.{Run}
 use Rattle.sparse_image.specs.declared.runs.Run.TheVariants.{Zeros}
 use Rattle.sparse_image.specs.declared.walk.Header.{Header}
 use Rattle.sparse_image.specs.Walks.{front_of, chunk_len, cells_of, LiesIn, IsFine, header_of, walked}
-use Rattle.sparse_image.specs.Runs.{Left, IsImage, GivesRun, Skips, Advances, run_at, run_cells, HasFours}
+use Rattle.sparse_image.specs.Runs.{Left, IsImage, GivesRun, Skips, Advances, run_at, run_len, run_cells, HasFours}
 use Rattle.sparse_image.proofs.WalkLemmas.{front-step, front-stops, front-lies, front-four, front-due, length-cells, walked-some, header-good}
 
 parts-whole : (found : Option (List Cell)) (own : List Cell) → IsSome (found >>= λ cells. Some (own ++ cells)) → IsSome found
@@ -88,12 +88,13 @@ module _ (at block blocks chunks more : ℕ) (bytes : List ℕ) (chunk : Chunk) 
 none-left : (n : ℕ) → n - n ≡ 0
 none-left n = omega arith
 
-pub GivesRun-from : (before now : Left) (run : Run) (cells : List Cell) → Advances before cells now → run_at run ≡ before.at → run_cells run ≡ cells → 0 < length cells → HasFours run → GivesRun before run now
-GivesRun-from before now run cells a at e h f = record {
+pub GivesRun-from : (before now : Left) (run : Run) (cells : List Cell) → Advances before cells now → run_at run ≡ before.at → run_cells run ≡ cells → 0 < length cells → HasFours run → run_at run + run_len run ≤ before.len → GivesRun before run now
+GivesRun-from before now run cells a at e h f l = record {
   len = a.len;
   later = omega arith;
   some = rw e h;
   fours = f;
+  within = l;
   at = rw (at, e) a.at;
   cells = rw (at, e, none-left before.at) a.cells;
 }
@@ -129,6 +130,7 @@ Skips-run a b c run p q = record {
   later = omega (arith, p.later, q.later);
   some = q.some;
   fours = q.fours;
+  within = omega (arith, p.len, q.within);
   at = q.at;
   cells = p.cells ∙ ap (λ (xs : List Cell). replicate (b.at - a.at) Skip ++ xs) q.cells ∙ replicate-join a.at b.at (run_at run) (run_cells run ++ c.cells) p.later q.later;
 }
@@ -149,6 +151,7 @@ zeros-run at zeros bytes e h =
       later = omega arith;
       some = simp length-replicate h;
       fours = tt;
+      within = omega arith;
       at = simp length-replicate refl;
       cells = rw (none-left at) (map-replicate zeros ∙ sym (append-nil (replicate zeros (Byte 0))));
     })

@@ -1,11 +1,11 @@
 -- The laws of the definitions.
-use Rattle.std.specs.Prelude.{◌≡◌, ◌<◌, ◌≤◌, ◌*◌, ◌^◌, ℕ, List, length, Option, Some, None, Result, Ok, Err}
+use Rattle.std.specs.Prelude.{◌≡◌, ◌<◌, ◌≤◌, ◌*◌, ◌^◌, ℕ, List, length, take, Option, Some, None, Result, Ok, Err}
 use Rattle.dev_model.specs.Images.{image, over}
 use Rattle.dev_model.specs.declared.cells.Cell.{Cell}
 use Rattle.sparse_image.specs.declared.errors.SparseError.{SparseError}
 use Rattle.sparse_image.specs.Walks.{Kept, checked, kept_cells, source_of}
 use Rattle.sparse_image.specs.declared.runs.Run.{Run}
-use Rattle.sparse_image.specs.Runs.{Left, IsImage, AreGiven, put_runs}
+use Rattle.sparse_image.specs.Runs.{Left, IsImage, AreGiven, AreGivenSoFar, put_runs}
 use Rattle.sparse_image.specs.Pieces.{Fits, piece_file, piece_cells, put_pieces, Rise}
 
 -- an image is there, and has the cells that are kept; or there is none, and something is wrong
@@ -38,6 +38,16 @@ WholeImage = (file : List ℕ) (kept : Kept) → checked file ≡ Ok kept → im
 abbrev pub PiecesPut : Type 0
 PiecesPut = (file : List ℕ) (kept : Kept) (places old : List ℕ) → checked file ≡ Ok kept → Rise 0 places kept.blocks → length (kept_cells kept file) ≤ length old → put_pieces kept file 0 places old ≡ over (kept_cells kept file) old
 
+-- pieces put over in order up to a place are the image's front up to there put over
+abbrev pub PiecesFront : Type 0
+PiecesFront = (file : List ℕ) (kept : Kept) (end : ℕ) (places old : List ℕ) → checked file ≡ Ok kept → Rise 0 places end → end ≤ kept.blocks → length (kept_cells kept file) ≤ length old →
+    put_pieces kept file 0 places old ≡ over (take (end * kept.block) (kept_cells kept file)) old
+
 -- the runs of an image, put at their places in order, are the image put over
 abbrev pub RunsPut : Type 0
 RunsPut = (file : List ℕ) (left : Left) (runs : List Run) (old : List ℕ) → IsImage (image file) left → AreGiven left runs → length left.cells ≤ length old → put_runs runs old ≡ over left.cells old
+
+-- the runs of an image that were given so far, put at their places in order, are the image's front up to the place that was reached put over
+abbrev pub RunsFront : Type 0
+RunsFront = (file : List ℕ) (left now : Left) (runs : List Run) (old : List ℕ) → IsImage (image file) left → AreGivenSoFar left runs now → length left.cells ≤ length old →
+    put_runs runs old ≡ over (take now.at left.cells) old

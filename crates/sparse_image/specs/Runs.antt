@@ -28,18 +28,25 @@ run_cells (Copy at bytes) = map Byte bytes.now
 run_cells (Fill at length pattern) = copies (length / 4) (map Byte pattern)
 run_cells (Zeros at length) = replicate length (Byte 0)
 
+-- how many bytes a run has
+abbrev pub run_len : Run → ℕ
+run_len (Copy at bytes) = length bytes.now
+run_len (Fill at length pattern) = length
+run_len (Zeros at length) = length
+
 -- four bytes again and again are whole fours, from a multiple of four on
 abbrev pub HasFours : Run → Type 0
 HasFours (Copy at bytes) = Unit {0}
 HasFours (Fill at length pattern) = (at % 4 ≡ 0) × (length % 4 ≡ 0)
 HasFours (Zeros at length) = Unit {0}
 
--- a run of at least one byte, before which all is to stay, and what is left behind it
+-- a run of at least one byte within the image, before which all is to stay, and what is left after it
 pub record GivesRun (before : Left) (run : Run) (now : Left) : Type 0 where
   pub len : now.len ≡ before.len
   pub later : before.at ≤ run_at run
   pub some : 0 < length (run_cells run)
   pub fours : HasFours run
+  pub within : run_at run + run_len run ≤ before.len
   pub at : now.at ≡ run_at run + length (run_cells run)
   pub cells : before.cells ≡ replicate (run_at run - before.at) Skip ++ (run_cells run ++ now.cells)
 
@@ -98,6 +105,11 @@ pub record IsImage (found : Option (List Cell)) (left : Left) : Type 0 where
 abbrev pub AreGiven : Left → List Run → Type 0
 AreGiven left [] = (now : Left) × Gives left None now
 AreGiven left (run ∷ runs) = (now : Left) × (Gives left (Some run) now × AreGiven now runs)
+
+-- these runs were given so far, one after another, and this is left
+abbrev pub AreGivenSoFar : Left → List Run → Left → Type 0
+AreGivenSoFar before [] now = now ≡ before
+AreGivenSoFar before (run ∷ runs) now = (next : Left) × (GivesRun before run next × AreGivenSoFar next runs now)
 
 -- bytes after runs are put over them, each at its place
 abbrev pub put_runs : List Run → List ℕ → List ℕ

@@ -47,7 +47,7 @@ fn next_chunk<B: Bytes>(
     ensures read { IsErrOf result CheckError.Read → Rose (B.faults source.old) (B.faults source.new) }
     ensures memory { ¬ IsErrOf result CheckError.Memory }
     ensures content { B.content source.new ≡ B.content source.old }
-    ensures kept { B.kept source.new ≡ B.kept source.old }
+    ensures same { B.lent source.new ≡ B.lent source.old }
     ensures size { B.size source.new ≡ B.size source.old }
     ensures later { B.faults source.old ≤ B.faults source.new }
 {
@@ -70,7 +70,7 @@ fn begins_sparse<B: Bytes>(source: &mut B, len: u64) -> Result<bool, BytesFault>
     requires told { IfSome (B.content source.old) (λ file. length file ≡ len) }
     ensures sparse { IfOk result (λ sparse. IfSome (B.content source.old) (λ file. is_sparse file ≡ sparse)) }
     ensures content { B.content source.new ≡ B.content source.old }
-    ensures kept { B.kept source.new ≡ B.kept source.old }
+    ensures same { B.lent source.new ≡ B.lent source.old }
     ensures size { B.size source.new ≡ B.size source.old }
     ensures cause { HasCause (B.faults source.old) (B.faults source.new) result }
 {
@@ -91,7 +91,7 @@ fn read_header<B: Bytes>(source: &mut B, len: u64) -> Result<Header, CheckError>
     ensures flaw { (flaw : _) → IsErrOf result (CheckError.Bad flaw) → IfSome (B.content source.old) (λ file. header_of (length file) file ≡ Err flaw) }
     ensures read { IsErrOf result CheckError.Read → Rose (B.faults source.old) (B.faults source.new) }
     ensures content { B.content source.new ≡ B.content source.old }
-    ensures kept { B.kept source.new ≡ B.kept source.old }
+    ensures same { B.lent source.new ≡ B.lent source.old }
     ensures size { B.size source.new ≡ B.size source.old }
     ensures later { B.faults source.old ≤ B.faults source.new }
 {
@@ -145,7 +145,7 @@ fn read_chunks<B: Bytes>(
     ensures flaw { (flaw : _) → IsErrOf result (CheckError.Bad flaw) → IfSome (B.content source.old) (λ file. walked header.now.chunks header.now.block header.now.blocks 28 (drop 28 file) ≡ Err flaw) }
     ensures read { IsErrOf result CheckError.Read → Rose (B.faults source.old) (B.faults source.new) }
     ensures content { B.content source.new ≡ B.content source.old }
-    ensures kept { B.kept source.new ≡ B.kept source.old }
+    ensures same { B.lent source.new ≡ B.lent source.old }
     ensures size { B.size source.new ≡ B.size source.old }
     ensures later { B.faults source.old ≤ B.faults source.new }
 {
@@ -187,14 +187,17 @@ impl Model for Index {
 impl Index {
     /// How many bytes the whole image has.
     pub fn len(&self) -> u64
-        ensures { result ≡ self.now.blocks * self.now.block }
+        ensures len { result ≡ self.now.blocks * self.now.block }
+        ensures some { 0 < result }
+        ensures short { result ≤ 2 ^ 44 }
     {
         u64::from(self.blocks) * u64::from(self.block)
     }
 
     /// How many chunks of at least one block there are; 1 for a raw file.
     pub fn chunks(&self) -> u32
-        ensures { result ≡ length self.now.chunks }
+        ensures count { result ≡ length self.now.chunks }
+        ensures few { result ≤ 1000000 }
     {
         self.chunks.len() as u32
     }
@@ -246,7 +249,7 @@ fn check_sparse<B: Bytes>(alloc: Global, source: &mut B, len: u64) -> Result<Ind
     ensures flaw { (flaw : _) → IsErrOf result (CheckError.Bad flaw) → IfSome (B.content source.old) (λ file. sparse_checked file ≡ Err flaw) }
     ensures read { IsErrOf result CheckError.Read → Rose (B.faults source.old) (B.faults source.new) }
     ensures content { B.content source.new ≡ B.content source.old }
-    ensures kept { B.kept source.new ≡ B.kept source.old }
+    ensures same { B.lent source.new ≡ B.lent source.old }
     ensures size { B.size source.new ≡ B.size source.old }
     ensures later { B.faults source.old ≤ B.faults source.new }
 {
@@ -295,11 +298,14 @@ pub fn check<B: Bytes>(alloc: Global, source: &mut B) -> Result<Index, CheckErro
     ensures index { IfOk result (λ index. IfSome (B.content source.old) (λ file. checked file ≡ Ok index)) }
     ensures image { IfOk result (λ index. IfSome (B.content source.old) (λ file. image file ≡ Some (kept_cells index file))) }
     ensures source_len { IfOk result (λ index. index.source_len ≡ B.size source.old) }
+    ensures some { IfOk result (λ index. 0 < index.blocks) }
+    ensures short { IfOk result (λ index. index.blocks * index.block ≤ 2 ^ 44) }
+    ensures few { IfOk result (λ index. length index.chunks ≤ 1000000) }
     ensures flaw { (flaw : _) → IsErrOf result (CheckError.Bad flaw) → IfSome (B.content source.old) (λ file. checked file ≡ Err flaw) }
     ensures none { (flaw : _) → IsErrOf result (CheckError.Bad flaw) → IfSome (B.content source.old) (λ file. image file ≡ None) }
     ensures read { IsErrOf result CheckError.Read → Rose (B.faults source.old) (B.faults source.new) }
     ensures content { B.content source.new ≡ B.content source.old }
-    ensures kept { B.kept source.new ≡ B.kept source.old }
+    ensures same { B.lent source.new ≡ B.lent source.old }
     ensures size { B.size source.new ≡ B.size source.old }
     ensures later { B.faults source.old ≤ B.faults source.new }
 {

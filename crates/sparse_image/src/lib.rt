@@ -2,7 +2,7 @@
 //! and splitting them into pieces that a device with a small download buffer takes.
 #![tactic(auto)]
 
-ghost use Rattle.sparse_image.specs.Laws.{WalkAgrees, ImageLength, PieceImage, PieceLength, PiecesPut, RunsPut, WholeImage};
+ghost use Rattle.sparse_image.specs.Laws.{WalkAgrees, ImageLength, PieceImage, PieceLength, PiecesPut, PiecesFront, RunsPut, RunsFront, WholeImage};
 
 pub mod chunk;
 pub mod errors;
@@ -27,7 +27,9 @@ pub fn laws()
     ensures piece_image { PieceImage }
     ensures piece_length { PieceLength }
     ensures pieces_put { PiecesPut }
+    ensures pieces_front { PiecesFront }
     ensures runs_put { RunsPut }
+    ensures runs_front { RunsFront }
     ensures whole_image { WholeImage }
 {}
 

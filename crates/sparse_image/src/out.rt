@@ -25,9 +25,9 @@ pub trait Out {
     ghost faults: { Self → ℕ };
 
     /// What no call changes, as which value an out borrows.
-    ghost Kept: { Type 0 } = { Unit {0} };
+    ghost Lent: { Type 0 } = { Unit {0} };
 
-    ghost kept: { Self → Self.Kept };
+    ghost lent: { Self → Self.Lent };
 
     /// What only a fault changes.
     ghost Whole: { Type 0 } = { Unit {0} };
@@ -41,7 +41,7 @@ pub trait Out {
         ensures all { OnOk result (Grew (put_so_far self.old) (put_so_far self.new) bytes.now) }
         ensures part { OnErr result (GrewInPart (put_so_far self.old) (put_so_far self.new) bytes.now) }
         ensures room { OnOk result (Fell (room self.old) (room self.new) (length bytes.now)) }
-        ensures kept { Self.kept self.new ≡ Self.kept self.old }
+        ensures same { Self.lent self.new ≡ Self.lent self.old }
         ensures whole { OnOk result (Self.whole self.new ≡ Self.whole self.old) }
         ensures cause { HasCause (faults self.old) (faults self.new) result };
 }
@@ -88,7 +88,7 @@ impl Out for MemoryOut {
 
     ghost faults = { λ out. 0 };
 
-    ghost kept = { λ out. tt };
+    ghost lent = { λ out. tt };
 
     ghost whole = { λ out. tt };
 

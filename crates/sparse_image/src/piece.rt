@@ -104,12 +104,12 @@ impl<'a> Piece<'a> {
         ensures put { OnOk result (Puts (B.content source.old) (part_bytes self.now) (part_len self.now) (O.put_so_far out.old) (O.put_so_far out.new)) }
         ensures part { OnErr result (PutsInPart (B.content source.old) (part_bytes self.now) (part_len self.now) (O.put_so_far out.old) (O.put_so_far out.new)) }
         ensures room { OnOk result (Fell (O.room out.old) (O.room out.new) (part_len self.now)) }
-        ensures out_kept { O.kept out.new ≡ O.kept out.old }
+        ensures out_same { O.lent out.new ≡ O.lent out.old }
         ensures out_whole { OnOk result (O.whole out.new ≡ O.whole out.old) }
         ensures read { IsErrOf result PieceFault.Read → Rose (B.faults source.old) (B.faults source.new) }
         ensures out { IsErrOf result PieceFault.Out → Rose (O.faults out.old) (O.faults out.new) }
         ensures content { B.content source.new ≡ B.content source.old }
-        ensures kept { B.kept source.new ≡ B.kept source.old }
+        ensures same { B.lent source.new ≡ B.lent source.old }
         ensures size { B.size source.new ≡ B.size source.old }
         ensures read_later { B.faults source.old ≤ B.faults source.new }
         ensures out_later { O.faults out.old ≤ O.faults out.new }
@@ -128,12 +128,12 @@ impl<'a> Piece<'a> {
         ensures put { OnOk result (Puts (B.content source.old) (part_bytes self.now) (part_len self.now) (O.put_so_far out.old) (O.put_so_far out.new)) }
         ensures part { OnErr result (PutsInPart (B.content source.old) (part_bytes self.now) (part_len self.now) (O.put_so_far out.old) (O.put_so_far out.new)) }
         ensures room { OnOk result (Fell (O.room out.old) (O.room out.new) (part_len self.now)) }
-        ensures out_kept { O.kept out.new ≡ O.kept out.old }
+        ensures out_same { O.lent out.new ≡ O.lent out.old }
         ensures out_whole { OnOk result (O.whole out.new ≡ O.whole out.old) }
         ensures read { IsErrOf result PieceFault.Read → Rose (B.faults source.old) (B.faults source.new) }
         ensures out { IsErrOf result PieceFault.Out → Rose (O.faults out.old) (O.faults out.new) }
         ensures content { B.content source.new ≡ B.content source.old }
-        ensures kept { B.kept source.new ≡ B.kept source.old }
+        ensures same { B.lent source.new ≡ B.lent source.old }
         ensures size { B.size source.new ≡ B.size source.old }
         ensures read_later { B.faults source.old ≤ B.faults source.new }
         ensures out_later { O.faults out.old ≤ O.faults out.new }

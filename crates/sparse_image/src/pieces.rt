@@ -49,6 +49,8 @@ impl<'a> Pieces<'a> {
     /// The next piece, which begins where the one before it ended. None means that all were given.
     pub fn next(&mut self) -> Option<Piece<'a>>
         ensures next { Cuts self.old result self.new }
+        ensures more { IfSome result (λ part. part.first < part.last) }
+        ensures within { IfSome result (λ part. part.last ≤ part.kept.blocks) }
         ensures size { IfSome result (λ part. part_len part ≤ self.old.max) }
     {
         let index = self.index;

@@ -30,12 +30,12 @@ fn copy_window<B: Bytes, O: Out>(
     ensures put { OnOk result (Puts (B.content source.old) (padded_part at (length window.old)) (length window.old) (O.put_so_far out.old) (O.put_so_far out.new)) }
     ensures part { OnErr result (PutsInPart (B.content source.old) (padded_part at (length window.old)) (length window.old) (O.put_so_far out.old) (O.put_so_far out.new)) }
     ensures room { OnOk result (Fell (O.room out.old) (O.room out.new) (length window.old)) }
-    ensures out_kept { O.kept out.new ≡ O.kept out.old }
+    ensures out_same { O.lent out.new ≡ O.lent out.old }
     ensures out_whole { OnOk result (O.whole out.new ≡ O.whole out.old) }
     ensures read { IsErrOf result PieceFault.Read → Rose (B.faults source.old) (B.faults source.new) }
     ensures out { IsErrOf result PieceFault.Out → Rose (O.faults out.old) (O.faults out.new) }
     ensures content { B.content source.new ≡ B.content source.old }
-    ensures kept { B.kept source.new ≡ B.kept source.old }
+    ensures same { B.lent source.new ≡ B.lent source.old }
     ensures size { B.size source.new ≡ B.size source.old }
     ensures read_later { B.faults source.old ≤ B.faults source.new }
     ensures out_later { O.faults out.old ≤ O.faults out.new }
@@ -64,12 +64,12 @@ pub fn copy<B: Bytes, O: Out>(
     ensures put { OnOk result (Puts (B.content source.old) (padded_part at n) n (O.put_so_far out.old) (O.put_so_far out.new)) }
     ensures part { OnErr result (PutsInPart (B.content source.old) (padded_part at n) n (O.put_so_far out.old) (O.put_so_far out.new)) }
     ensures room { OnOk result (Fell (O.room out.old) (O.room out.new) n) }
-    ensures out_kept { O.kept out.new ≡ O.kept out.old }
+    ensures out_same { O.lent out.new ≡ O.lent out.old }
     ensures out_whole { OnOk result (O.whole out.new ≡ O.whole out.old) }
     ensures read { IsErrOf result PieceFault.Read → Rose (B.faults source.old) (B.faults source.new) }
     ensures out { IsErrOf result PieceFault.Out → Rose (O.faults out.old) (O.faults out.new) }
     ensures content { B.content source.new ≡ B.content source.old }
-    ensures kept { B.kept source.new ≡ B.kept source.old }
+    ensures same { B.lent source.new ≡ B.lent source.old }
     ensures size { B.size source.new ≡ B.size source.old }
     ensures read_later { B.faults source.old ≤ B.faults source.new }
     ensures out_later { O.faults out.old ≤ O.faults out.new }
@@ -89,7 +89,7 @@ fn put<O: Out>(out: &mut O, bytes: &[u8]) -> Result<(), PieceFault>
     ensures all { OnOk result (Grew (O.put_so_far out.old) (O.put_so_far out.new) bytes.now) }
     ensures part { OnErr result (GrewInPart (O.put_so_far out.old) (O.put_so_far out.new) bytes.now) }
     ensures room { OnOk result (Fell (O.room out.old) (O.room out.new) (length bytes.now)) }
-    ensures out_kept { O.kept out.new ≡ O.kept out.old }
+    ensures out_same { O.lent out.new ≡ O.lent out.old }
     ensures out_whole { OnOk result (O.whole out.new ≡ O.whole out.old) }
     ensures cause { HasCause (O.faults out.old) (O.faults out.new) result }
     ensures kind { ¬ IsErrOf result PieceFault.Read }
@@ -114,12 +114,12 @@ fn put_data<B: Bytes, O: Out>(
     ensures put { OnOk result (Puts (B.content source.old) (padded_data n content) (content_len n content) (O.put_so_far out.old) (O.put_so_far out.new)) }
     ensures part { OnErr result (PutsInPart (B.content source.old) (padded_data n content) (content_len n content) (O.put_so_far out.old) (O.put_so_far out.new)) }
     ensures room { OnOk result (Fell (O.room out.old) (O.room out.new) (content_len n content)) }
-    ensures out_kept { O.kept out.new ≡ O.kept out.old }
+    ensures out_same { O.lent out.new ≡ O.lent out.old }
     ensures out_whole { OnOk result (O.whole out.new ≡ O.whole out.old) }
     ensures read { IsErrOf result PieceFault.Read → Rose (B.faults source.old) (B.faults source.new) }
     ensures out { IsErrOf result PieceFault.Out → Rose (O.faults out.old) (O.faults out.new) }
     ensures content { B.content source.new ≡ B.content source.old }
-    ensures kept { B.kept source.new ≡ B.kept source.old }
+    ensures same { B.lent source.new ≡ B.lent source.old }
     ensures size { B.size source.new ≡ B.size source.old }
     ensures read_later { B.faults source.old ≤ B.faults source.new }
     ensures out_later { O.faults out.old ≤ O.faults out.new }
@@ -147,12 +147,12 @@ fn put_chunk<B: Bytes, O: Out>(
     ensures put { OnOk result (Puts (B.content source.old) (padded_chunk block (record { blocks = blocks; content = content })) (chunk_len block (record { blocks = blocks; content = content })) (O.put_so_far out.old) (O.put_so_far out.new)) }
     ensures part { OnErr result (PutsInPart (B.content source.old) (padded_chunk block (record { blocks = blocks; content = content })) (chunk_len block (record { blocks = blocks; content = content })) (O.put_so_far out.old) (O.put_so_far out.new)) }
     ensures room { OnOk result (Fell (O.room out.old) (O.room out.new) (chunk_len block (record { blocks = blocks; content = content }))) }
-    ensures out_kept { O.kept out.new ≡ O.kept out.old }
+    ensures out_same { O.lent out.new ≡ O.lent out.old }
     ensures out_whole { OnOk result (O.whole out.new ≡ O.whole out.old) }
     ensures read { IsErrOf result PieceFault.Read → Rose (B.faults source.old) (B.faults source.new) }
     ensures out { IsErrOf result PieceFault.Out → Rose (O.faults out.old) (O.faults out.new) }
     ensures content { B.content source.new ≡ B.content source.old }
-    ensures kept { B.kept source.new ≡ B.kept source.old }
+    ensures same { B.lent source.new ≡ B.lent source.old }
     ensures size { B.size source.new ≡ B.size source.old }
     ensures read_later { B.faults source.old ≤ B.faults source.new }
     ensures out_later { O.faults out.old ≤ O.faults out.new }
@@ -178,12 +178,12 @@ pub fn put_chunks<B: Bytes, O: Out>(
     ensures put { OnOk result (Puts (B.content source.old) (padded_chunks rest.entry.block (first_blocks left (rest_chunks rest.entry))) (sum_by (chunk_len rest.entry.block) (first_blocks left (rest_chunks rest.entry))) (O.put_so_far out.old) (O.put_so_far out.new)) }
     ensures part { OnErr result (PutsInPart (B.content source.old) (padded_chunks rest.entry.block (first_blocks left (rest_chunks rest.entry))) (sum_by (chunk_len rest.entry.block) (first_blocks left (rest_chunks rest.entry))) (O.put_so_far out.old) (O.put_so_far out.new)) }
     ensures room { OnOk result (Fell (O.room out.old) (O.room out.new) (sum_by (chunk_len rest.entry.block) (first_blocks left (rest_chunks rest.entry)))) }
-    ensures out_kept { O.kept out.new ≡ O.kept out.old }
+    ensures out_same { O.lent out.new ≡ O.lent out.old }
     ensures out_whole { OnOk result (O.whole out.new ≡ O.whole out.old) }
     ensures read { IsErrOf result PieceFault.Read → Rose (B.faults source.old) (B.faults source.new) }
     ensures out { IsErrOf result PieceFault.Out → Rose (O.faults out.old) (O.faults out.new) }
     ensures content { B.content source.new ≡ B.content source.old }
-    ensures kept { B.kept source.new ≡ B.kept source.old }
+    ensures same { B.lent source.new ≡ B.lent source.old }
     ensures size { B.size source.new ≡ B.size source.old }
     ensures read_later { B.faults source.old ≤ B.faults source.new }
     ensures out_later { O.faults out.old ≤ O.faults out.new }
@@ -207,7 +207,7 @@ pub fn put_hole<O: Out>(out: &mut O, blocks: u32) -> Result<(), PieceFault>
     ensures part { OnErr result (GrewInPart (O.put_so_far out.old) (O.put_so_far out.new) (hole_bytes blocks)) }
     ensures some { OnErr result (0 < length (hole_bytes blocks)) }
     ensures room { OnOk result (Fell (O.room out.old) (O.room out.new) (length (hole_bytes blocks))) }
-    ensures out_kept { O.kept out.new ≡ O.kept out.old }
+    ensures out_same { O.lent out.new ≡ O.lent out.old }
     ensures out_whole { OnOk result (O.whole out.new ≡ O.whole out.old) }
     ensures cause { HasCause (O.faults out.old) (O.faults out.new) result }
     ensures kind { ¬ IsErrOf result PieceFault.Read }
@@ -224,7 +224,7 @@ pub fn put_front<O: Out>(out: &mut O, header: &[u8], first: u32) -> Result<(), P
     ensures all { OnOk result (Grew (O.put_so_far out.old) (O.put_so_far out.new) (header.now ++ hole_bytes first)) }
     ensures part { OnErr result (GrewInPart (O.put_so_far out.old) (O.put_so_far out.new) (header.now ++ hole_bytes first)) }
     ensures room { OnOk result (Fell (O.room out.old) (O.room out.new) (length (header.now ++ hole_bytes first))) }
-    ensures out_kept { O.kept out.new ≡ O.kept out.old }
+    ensures out_same { O.lent out.new ≡ O.lent out.old }
     ensures out_whole { OnOk result (O.whole out.new ≡ O.whole out.old) }
     ensures cause { HasCause (O.faults out.old) (O.faults out.new) result }
     ensures kind { ¬ IsErrOf result PieceFault.Read }

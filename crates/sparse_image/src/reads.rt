@@ -12,7 +12,7 @@ pub fn read_exact<B: Bytes>(source: &mut B, at: u64, buf: &mut [u8]) -> Result<(
     requires fits { at + length buf.old < 2 ^ 64 }
     ensures read { OnOk result (IsRead (B.content source.old) at buf.new (length buf.new)) }
     ensures content { B.content source.new ≡ B.content source.old }
-    ensures kept { B.kept source.new ≡ B.kept source.old }
+    ensures same { B.lent source.new ≡ B.lent source.old }
     ensures size { B.size source.new ≡ B.size source.old }
     ensures cause { HasCause (B.faults source.old) (B.faults source.new) result }
 {
@@ -35,7 +35,7 @@ fn clear(buf: &mut [u8])
 pub fn read_padded<B: Bytes>(source: &mut B, at: u64, buf: &mut [u8]) -> Result<(), BytesFault>
     ensures read { OnOk result (IfSome (B.content source.old) (λ file. buf.new ≡ padded_part at (length buf.old) file)) }
     ensures content { B.content source.new ≡ B.content source.old }
-    ensures kept { B.kept source.new ≡ B.kept source.old }
+    ensures same { B.lent source.new ≡ B.lent source.old }
     ensures size { B.size source.new ≡ B.size source.old }
     ensures cause { HasCause (B.faults source.old) (B.faults source.new) result }
 {

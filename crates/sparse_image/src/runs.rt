@@ -65,6 +65,7 @@ impl<'a> Chunks<'a> {
         ensures block { self.new.block ≡ self.old.block }
         ensures lies { LiesIn (length self.old.bytes.now) (result.blocks * self.old.block) result.content }
         ensures long { length (cells_of self.old.block self.old.bytes.now result) ≡ result.blocks * self.old.block }
+        ensures within { self.old.at + result.blocks * self.old.block ≤ self.old.at + self.old.blocks * self.old.block }
         ensures small { self.old.at + result.blocks * self.old.block < 2 ^ 64 }
     {
         let bytes = self.bytes;

@@ -1,4 +1,4 @@
-ghost use Rattle.std.specs.Prelude.{◌≡◌, ℕ, List, ◌-◌, ◌<◌, ◌≤◌, length, Option, Some, IfOk};
+ghost use Rattle.std.specs.Prelude.{◌≡◌, ℕ, List, ◌-◌, ◌<◌, ◌≤◌, length, Option, Some, Ok, IfOk};
 ghost use Rattle.fb_frame.specs.Causes.{HasCause};
 ghost use Rattle.sparse_image.specs.Outside.{HasLength, IsRead};
 
@@ -20,9 +20,9 @@ pub trait Bytes {
     ghost faults: { Self → ℕ };
 
     /// What no call changes, as which value a source borrows.
-    ghost Kept: { Type 0 } = { Unit {0} };
+    ghost Lent: { Type 0 } = { Unit {0} };
 
-    ghost kept: { Self → Self.Kept };
+    ghost lent: { Self → Self.Lent };
 
     /// How many bytes there are.
     fn len(&self) -> u64
@@ -34,11 +34,12 @@ pub trait Bytes {
     fn read_at(&mut self, at: u64, buf: &mut [u8]) -> Result<usize, BytesFault>
         ensures fits { IfOk result (λ n. n ≤ length buf.new) }
         ensures within { IfOk result (λ n. n ≤ size self.old - at) }
+        ensures end { size self.old ≤ at → result ≡ Ok 0 }
         ensures some { at < size self.old → 0 < length buf.old → IfOk result (λ n. 0 < n) }
         ensures read { IfOk result (λ n. IsRead (content self.old) at buf.new n) }
         ensures content { content self.new ≡ content self.old }
         ensures size { size self.new ≡ size self.old }
-        ensures kept { Self.kept self.new ≡ Self.kept self.old }
+        ensures same { Self.lent self.new ≡ Self.lent self.old }
         ensures cause { HasCause (faults self.old) (faults self.new) result };
 }
 
@@ -72,7 +73,7 @@ impl Bytes for MemoryBytes<'_> {
 
     ghost faults = { λ source. 0 };
 
-    ghost kept = { λ source. tt };
+    ghost lent = { λ source. tt };
 
     fn len(&self) -> u64 {
         self.bytes.len() as u64

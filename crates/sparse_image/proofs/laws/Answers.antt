@@ -1,6 +1,6 @@
 use Rattle.sparse_image.proofs.WalkLemmas.{walk-agrees}
-use Rattle.sparse_image.proofs.PieceLemmas.{kept-long, piece-image, piece-length, pieces-put}
-use Rattle.sparse_image.proofs.PutLemmas.{runs-put}
+use Rattle.sparse_image.proofs.PieceLemmas.{kept-long, piece-image, piece-length, pieces-put, pieces-front}
+use Rattle.sparse_image.proofs.PutLemmas.{runs-put, runs-front}
 use Rattle.sparse_image.proofs.WholeLemmas.{whole-image}
 use Rattle.sparse_image.proofs.laws.Goals as goal
 
@@ -11,6 +11,8 @@ returns c = record {
   piece_image = piece-image;
   piece_length = piece-length;
   pieces_put = pieces-put;
+  pieces_front = pieces-front;
   runs_put = runs-put;
+  runs_front = runs-front;
   whole_image = whole-image;
 }

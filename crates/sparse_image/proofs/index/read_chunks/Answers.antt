@@ -28,7 +28,7 @@ loop-preserved g c =
       told = rw (k, c.len-place.ensures) (told-next (g.B.Bytes.content c.args.source.now) (λ file. walked header.chunks header.block header.blocks 28 (drop 28 file)) (header.chunks - c.loop.counter) (header.chunks - (c.loop.counter + 1)) header.block c.loop.blocks c.loop.place c.loop.chunks.items chunk n
           (rw c.loop.invariant.content at c.in_ok-chunk.ensures.chunk) c.loop.invariant.told);
       content = c.next_chunk.ensures.content ∙ c.loop.invariant.content;
-      kept = c.next_chunk.ensures.kept ∙ c.loop.invariant.kept;
+      same = c.next_chunk.ensures.same ∙ c.loop.invariant.same;
       size = c.next_chunk.ensures.size ∙ c.loop.invariant.size;
       later = omega (arith, c.next_chunk.ensures.later, c.loop.invariant.later);
     }

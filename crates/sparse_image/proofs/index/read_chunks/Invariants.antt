@@ -11,7 +11,7 @@ invariant-loop g l = record {
   well : AreWell l.header.block l.len (l.header.blocks - l.blocks) l.chunks.items;
   told : IfSome (g.B.Bytes.content l.initial.source) (λ file. prepend l.chunks.items (walked (l.header.chunks - l.counter) l.header.block l.blocks l.place (drop l.place file)) ≡ walked l.header.chunks l.header.block l.header.blocks 28 (drop 28 file));
   content : g.B.Bytes.content l.source ≡ g.B.Bytes.content l.initial.source;
-  kept : g.B.Bytes.kept l.source ≡ g.B.Bytes.kept l.initial.source;
+  same : g.B.Bytes.lent l.source ≡ g.B.Bytes.lent l.initial.source;
   size : g.B.Bytes.size l.source ≡ g.B.Bytes.size l.initial.source;
   later : g.B.Bytes.faults l.initial.source ≤ g.B.Bytes.faults l.source;
 }

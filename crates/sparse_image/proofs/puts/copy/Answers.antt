@@ -11,10 +11,10 @@ loop-done-init g c = record {
   put = copy-none (g.B.Bytes.content c.args.source.now) c.args.at (g.O.Out.put_so_far c.args.out.now);
   room = fell-none (g.O.Out.room c.args.out.now);
   content = refl;
-  kept = refl;
+  same = refl;
   size = refl;
   read_later = omega arith;
-  out_kept = refl;
+  out_same = refl;
   out_whole = refl;
   out_later = omega arith;
 }
@@ -51,8 +51,8 @@ loop-done-preserved g c =
       room = fell-then (g.O.Out.room c.args.out.now) (g.O.Out.room c.loop-done.out) (g.O.Out.room c.copy_window.new.out) c.loop-done.done size c.loop-done.invariant.room
           (subst (λ (k : ℕ). Fell (g.O.Out.room c.loop-done.out) (g.O.Out.room c.copy_window.new.out) k) long c.in_ok-copy_window.ensures.room);
       content = c.copy_window.ensures.content ∙ c.loop-done.invariant.content;
-      kept = c.copy_window.ensures.kept ∙ c.loop-done.invariant.kept;
-      out_kept = c.copy_window.ensures.out_kept ∙ c.loop-done.invariant.out_kept;
+      same = c.copy_window.ensures.same ∙ c.loop-done.invariant.same;
+      out_same = c.copy_window.ensures.out_same ∙ c.loop-done.invariant.out_same;
       out_whole = c.in_ok-copy_window.ensures.out_whole ∙ c.loop-done.invariant.out_whole;
       size = c.copy_window.ensures.size ∙ c.loop-done.invariant.size;
       read_later = omega (arith, c.copy_window.ensures.read_later, c.loop-done.invariant.read_later);

@@ -11,10 +11,10 @@ invariant-loop-left g l = record {
   block : l.rest.block ≡ l.initial.rest.block;
   put : PartsPut (g.B.Bytes.content l.initial.source) l.initial.rest.block (first_blocks l.initial.left (rest_chunks l.initial.rest)) (first_blocks l.left (rest_chunks l.rest)) (g.O.Out.put_so_far l.initial.out) (g.O.Out.put_so_far l.out) (g.O.Out.room l.initial.out) (g.O.Out.room l.out);
   content : g.B.Bytes.content l.source ≡ g.B.Bytes.content l.initial.source;
-  kept : g.B.Bytes.kept l.source ≡ g.B.Bytes.kept l.initial.source;
+  same : g.B.Bytes.lent l.source ≡ g.B.Bytes.lent l.initial.source;
   size : g.B.Bytes.size l.source ≡ g.B.Bytes.size l.initial.source;
   read_later : g.B.Bytes.faults l.initial.source ≤ g.B.Bytes.faults l.source;
-  out_kept : g.O.Out.kept l.out ≡ g.O.Out.kept l.initial.out;
+  out_same : g.O.Out.lent l.out ≡ g.O.Out.lent l.initial.out;
   out_whole : g.O.Out.whole l.out ≡ g.O.Out.whole l.initial.out;
   out_later : g.O.Out.faults l.initial.out ≤ g.O.Out.faults l.out;
 }

@@ -7,7 +7,7 @@ invariant-loop-have g l = record {
   within : l.have ≤ length l.buf;
   read : IsRead (g.B.Bytes.content l.initial.source) l.at l.buf l.have;
   content : g.B.Bytes.content l.source ≡ g.B.Bytes.content l.initial.source;
-  kept : g.B.Bytes.kept l.source ≡ g.B.Bytes.kept l.initial.source;
+  same : g.B.Bytes.lent l.source ≡ g.B.Bytes.lent l.initial.source;
   size : g.B.Bytes.size l.source ≡ g.B.Bytes.size l.initial.source;
   later : g.B.Bytes.faults l.initial.source ≤ g.B.Bytes.faults l.source;
 }

@@ -36,3 +36,9 @@ pub returns-clause-long : goal.returns-clause-long
 returns-clause-long c =
     let s = c.args.self.now in
     chunk-long s.at s.block s.blocks s.chunks (s.chunks - 1) s.bytes.now c.in-Ok.chunk (omega arith) c.requires.whole.whole c.requires.whole.fours (sym c.in-Ok.ensures.chunk) c.in-Ok.ensures.due
+
+pub returns-clause-within : goal.returns-clause-within
+returns-clause-within c =
+    let s = c.args.self.now in
+    let spent = blocks-spent s.at s.block s.blocks s.chunks (s.chunks - 1) s.bytes.now c.in-Ok.chunk (omega arith) c.requires.whole.whole c.requires.whole.fours (sym c.in-Ok.ensures.chunk) c.in-Ok.ensures.due in
+    omega (arith, spent)
