@@ -146,6 +146,8 @@ impl Bytes for Zeros {
 
     ghost faults = { λ source. 0 };
 
+    ghost lent = { λ source. tt };
+
     fn len(&self) -> u64 {
         self.len
     }
