@@ -37,9 +37,13 @@ abbrev pub take_in_turn : ℕ → ℕ → List Partition → Bool
 take_in_turn extents at [] = at == extents
 take_in_turn extents at (p ∷ partitions) = p.first == at && take_in_turn extents (at + p.count) partitions
 
+-- the group of each partition is there
+abbrev pub are_grouped : Content → Bool
+are_grouped c = list_all (λ p. nat_lt p.group (length c.groups)) c.partitions
+
 -- the partitions take the extents in turn, and their groups are there
 unfoldable pub are_indexed : Content → Bool
-are_indexed c = take_in_turn (length c.extents) 0 c.partitions && list_all (λ p. nat_lt p.group (length c.groups)) c.partitions
+are_indexed c = take_in_turn (length c.extents) 0 c.partitions && are_grouped c
 
 -- the extents of a partition
 abbrev pub extents_of : Content → Partition → List Extent

@@ -1,7 +1,7 @@
-ghost use Rattle.std.specs.Prelude.{◌≡◌, ◌<◌, length, map, nat_lt, true, ◌==◌, Some, None, if◌then◌else◌, IfOk};
+ghost use Rattle.std.specs.Prelude.{◌≡◌, ◌<◌, length, map, nat_lt, true, ◌==◌, Some, None, if◌then◌else◌, IfOk, IsTrue};
 ghost use Rattle.std.specs.List.{list_all};
 ghost use Rattle.super_meta.specs.declared.errors.MetaError.TheVariants.{Unsupported};
-ghost use Rattle.super_meta.specs.Contents.{content};
+ghost use Rattle.super_meta.specs.Contents.{content, are_grouped};
 ghost use Rattle.super_meta.specs.Held.{listed, limited, roomed, based, tables_in, tables_of_image, tables_flaw};
 
 use crate::errors::{MetaError, ReadError};
@@ -96,7 +96,7 @@ impl Table {
     /// What the table and the geometry beside it say to a device that takes them, None where the
     /// table has an extent.
     fn tables(&self, alloc: Global, geometry: &Geometry) -> Result<Option<Tables>, Memory>
-        requires grouped { list_all (λ p. nat_lt p.group (length self.now.groups.items)) self.now.partitions.items ≡ true }
+        requires grouped { IsTrue (are_grouped (content self.now)) }
         ensures { IfOk result (λ tables. tables
             ≡ (if length self.now.extents.items == 0
             then Some (tables_in geometry.now (content self.now)) else None)) }

@@ -78,7 +78,9 @@ impl Model for TableRoom {
 
     ghost view = { λ room. content room.table };
 
-    ghost invariant = { λ room. (2520 ≤ vec_capacity room.table.partitions) × (5461 ≤ vec_capacity room.table.extents) × (2730 ≤ vec_capacity room.table.groups) };
+    ghost invariant = { λ room.
+        (2520 ≤ vec_capacity room.table.partitions) × (5461 ≤ vec_capacity room.table.extents)
+        × (2730 ≤ vec_capacity room.table.groups) };
 }
 
 impl Table {
