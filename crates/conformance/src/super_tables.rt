@@ -3,7 +3,7 @@ use std::alloc::{AllocError, Global};
 use std::test::Fail;
 use super_meta::errors::{MetaError, ReadError};
 use super_meta::geometry::{Geometry, read_geometry, write_geometry};
-use super_meta::held::tables_of_image;
+use super_meta::held::{tables_flaw, tables_of_image};
 use super_meta::image::{TableRoom, read_empty_image};
 use super_meta::reading::read_table;
 use super_meta::writing::write_table;
@@ -436,6 +436,7 @@ fn writes_what_was_read(rt: HostRuntime) -> Result<(), Fail> {
         let size = write_table(&table, &mut room).map_err(|_| "too long")?;
         assert_eq!(rt; size, bytes.len());
         assert_eq!(rt; room[..size], bytes[..]);
+        assert!(rt; read_table(rt.alloc(), &room[..size])?.says_same(&table));
         assert!(rt; room[size..].iter().all(|b| *b == 0xee));
         let less = size.saturating_sub(1);
         let mut room = [0xee; 1000];
@@ -460,6 +461,7 @@ fn reads_into_a_room(rt: HostRuntime) -> Result<(), Fail> {
 #[test]
 fn holds_tables(rt: HostRuntime) -> Result<(), Fail> {
     let file = empty_super(rt.alloc())?;
+    assert!(rt; tables_flaw(rt.alloc(), &file)?.is_none());
     let tables = tables_of_image(rt.alloc(), &file)?.ok_or("no tables")?;
     let partitions: [(&[u8], &[u8]); 6] = [
         (b"system_a", b"main_a"),
@@ -495,10 +497,18 @@ fn holds_no_tables(rt: HostRuntime) -> Result<(), Fail> {
     let filled = filled_super(rt.alloc())?;
     assert!(rt; image_flaw(rt.alloc(), &filled).is_none());
     assert!(rt; tables_of_image(rt.alloc(), &filled)?.is_none());
+    assert_eq!(rt;
+        tables_flaw(rt.alloc(), &filled)?,
+        Some(MetaError::Unsupported)
+    );
     let mut file = empty_super(rt.alloc())?;
     file.resize(131_073, 0)?;
     assert!(rt; tables_of_image(rt.alloc(), &file)?.is_none());
     file.resize(4743, 0)?;
     assert!(rt; tables_of_image(rt.alloc(), &file)?.is_none());
+    assert_eq!(rt;
+        tables_flaw(rt.alloc(), &file)?,
+        Some(MetaError::ShortInput)
+    );
     Ok(())
 }
