@@ -1,5 +1,5 @@
 -- What the chains come to, and what a change of one of them leaves.
-use Rattle.std.proofs.Common.{◌≡◌, ℕ, zero, suc, ◌+◌, ◌^◌, ◌<◌, ◌≤◌, ◌≢◌, Bool, true, false, cond, ltb, not, List, Option, Some, None, is_none, [], ◌∷◌, ◌++◌, length, get_or, set, take, map, replicate, count_by, refl, sym, ap, subst, ◌∙◌, ◌&&◌, inl, inr, arith, add-one, length-set}
+use Rattle.std.proofs.Common.{◌≡◌, ℕ, zero, suc, ◌+◌, ◌-◌, ◌^◌, ◌<◌, ◌≤◌, ◌≢◌, Bool, true, false, cond, ltb, not, List, Option, Some, None, is_none, [], ◌∷◌, ◌++◌, length, get_or, set, take, map, replicate, count_by, refl, sym, ap, subst, ◌∙◌, ◌&&◌, inl, inr, arith, add-one, length-set}
 use Rattle.std.proofs.lemmas.List.{get_or-set_same, get_or-set_other, get_or_read, get_or-map, length-map, length-replicate, get_or-replicate, get_or_past, ext_get_or, take_all}
 use Rattle.std.proofs.lemmas.List.Sums.{sum_by_more}
 use Rattle.std.proofs.lemmas.Bool.{cases_eq, cases_lt}
@@ -12,7 +12,7 @@ use Rattle.unit_alloc.proofs.TimesLemmas.{times_in-nil, times_in-cons, times_in-
 use Rattle.unit_alloc.proofs.MarksLemmas.{is_none-is_free, is_free-within}
 use Rattle.unit_alloc.proofs.FreeLemmas.{free_below, free_below-zero, free_below_more, length-free_units_below}
 use Rattle.unit_alloc.proofs.HandedLemmas.{times-handed_one, OneOwner-unowned}
-use Rattle.unit_alloc.proofs.LinkedLemmas.{length-linked, get_or-linked, linked-zero, times_in-get_or}
+use Rattle.unit_alloc.proofs.LinkedLemmas.{length-linked, get_or-linked, linked-zero, stepped_more, times_in-get_or}
 
 -- the units of a part are those of its chain
 pub units_of-chained : (owners : List (Option ℕ)) (next : List ℕ) (chains : List Chain) (p : ℕ) → p < length chains →
@@ -204,6 +204,22 @@ pub unit_at-view : (owners : List (Option ℕ)) (next : List ℕ) (chains : List
     place < ch.count → stepped next ch.first place ≡ get_or (units_of m p) place 0
 unit_at-view owners next chains m p place ch e h r lt =
     sym (get_or-linked next ch.first place ch.count lt) ∙ ap (λ (l : List ℕ). get_or l place 0) (sym (units_of-view owners next chains m p ch e h r))
+
+-- the unit that follows another of a part's list
+pub next-view : (owners : List (Option ℕ)) (next : List ℕ) (chains : List Chain) (m : Owning) (p place last : ℕ) → chained owners next chains ≡ m → AreChained owners next chains →
+    p < length m.parts → place < length (units_of m p) → 0 < place → last ≡ get_or (units_of m p) (place - 1) 0 →
+    (last < length next) × (get_or next last 0 ≡ get_or (units_of m p) place 0)
+next-view owners next chains m p place last e a h inside later is =
+    let hp = part-view owners next chains m p e h in
+    let ch : Chain = get_or chains p no_chain in
+    let list : units_of m p ≡ linked next ch.first ch.count = ap (λ (n : Owning). units_of n p) (sym e) ∙ units_of-chained owners next chains p hp in
+    let n = ap (length {A = ℕ}) list ∙ length-linked next ch.first ch.count in
+    let before : last ≡ stepped next ch.first (place - 1) = is ∙ ap (λ (l : List ℕ). get_or l (place - 1) 0) list ∙ get_or-linked next ch.first (place - 1) ch.count (omega (arith, n)) in
+    let here : get_or (units_of m p) place 0 ≡ stepped next ch.first place = ap (λ (l : List ℕ). get_or l place 0) list ∙ get_or-linked next ch.first place ch.count (omega (arith, n)) in
+    let step : stepped next ch.first place ≡ get_or next (stepped next ch.first (place - 1)) 0 = ap (λ (k : ℕ). stepped next ch.first k) (omega arith) ∙ stepped_more next ch.first (place - 1) in (
+      subst (λ (u : ℕ). u < length next) (sym before) (stepped-within owners next chains p (place - 1) a hp (omega (arith, n))),
+      ap (λ (u : ℕ). get_or next u 0) before ∙ sym step ∙ sym here,
+    )
 
 -- the same value of the same parts
 pub AreChained-same : (owners owners' : List (Option ℕ)) (next next' : List ℕ) (chains chains' : List Chain) → owners ≡ owners' → next ≡ next' → chains ≡ chains' →

@@ -10,3 +10,5 @@ pub mod LinkedLemmas
 pub mod ChainedLemmas
 pub mod AppendLemmas
 pub mod CutLemmas
+pub mod RunLemmas
+pub mod OwnerLaws

@@ -1,10 +1,5 @@
 use thiserror::Error;
 
-/// There is no memory for the owners.
-#[derive(Clone, Copy, Debug, PartialEq, Eq, Error)]
-#[error("out of memory")]
-pub struct Memory;
-
 /// A part has the unit already.
 #[derive(Clone, Copy, Debug, PartialEq, Eq, Error)]
 #[error("the unit has an owner")]

@@ -1,6 +1,6 @@
 ghost use Rattle.std.specs.Prelude.{◌≡◌, IfOk, replicate};
 
-use crate::Memory;
+use fb_frame::memory::Memory;
 use std::alloc::Global;
 
 /// A value, as often as is said.

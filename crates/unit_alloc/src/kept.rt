@@ -5,7 +5,8 @@ ghost use Rattle.unit_alloc.specs.Chains.{stepped, linked, linked_next, AreOwned
 use crate::fill::filled;
 use crate::states::States;
 use crate::sum::is_sum;
-use crate::{Memory, NoSpace, Owned};
+use crate::{NoSpace, Owned};
+use fb_frame::memory::Memory;
 use std::alloc::Global;
 use std::marker::Model;
 
@@ -140,6 +141,7 @@ impl Owners {
     pub fn count(&self, part: u32) -> u32
         requires { part < length self.now.parts }
         ensures count { result ≡ length (units_of self.now part) }
+        ensures small { self.now.units < 2 ^ 32 }
         ensures one_owner { OneOwner self.now }
     {
         self.chains[part as usize].count
@@ -150,6 +152,7 @@ impl Owners {
         requires part { part < length self.now.parts }
         requires place { place < length (units_of self.now part) }
         ensures unit { result ≡ slice_index (units_of self.now part) place }
+        ensures there { result < self.now.units }
         ensures one_owner { OneOwner self.now }
     {
         walk(&self.next, self.chains[part as usize].first, place)
@@ -157,16 +160,69 @@ impl Owners {
 
     /// The unit at a place of a part's list, and how many units from there on have consecutive
     /// ascending numbers.
+    #[tactic(auto, using(crate::proofs::RunLemmas::runs))]
     pub fn run_at(&self, part: u32, place: u32) -> (u32, u32)
         requires part { part < length self.now.parts }
         requires place { place < length (units_of self.now part) }
         ensures unit { result.0 ≡ slice_index (units_of self.now part) place }
         ensures run { result.1 ≡ run_from result.0 (drop place (units_of self.now part)) }
+        ensures there { result.0 + result.1 ≤ self.now.units }
+        ensures small { self.now.units < 2 ^ 32 }
+        ensures some { 0 < result.1 }
+        ensures rest { place + result.1 ≤ length (units_of self.now part) }
+        ensures each { (k : ℕ) → k < result.1 →
+            slice_index (units_of self.now part) (place + k) ≡ result.0 + k }
         ensures one_owner { OneOwner self.now }
     {
-        let chain = self.chains[part as usize];
-        let first = walk(&self.next, chain.first, place);
-        (first, run_length(&self.next, first, chain.count - place))
+        let first = self.unit_at(part, place);
+        (first, self.run_of(part, place, first))
+    }
+
+    /// The run at a place after the first, where `last` is the unit at the place before: one step from
+    /// the end of a run to the next, so that all runs of a part are met in time that is linear in its
+    /// units.
+    #[tactic(auto, using(crate::proofs::RunLemmas::runs))]
+    pub fn run_after(&self, part: u32, place: u32, last: u32) -> (u32, u32)
+        requires part { part < length self.now.parts }
+        requires place { place < length (units_of self.now part) }
+        requires later { 0 < place }
+        requires last { last ≡ slice_index (units_of self.now part) (place - 1) }
+        ensures unit { result.0 ≡ slice_index (units_of self.now part) place }
+        ensures run { result.1 ≡ run_from result.0 (drop place (units_of self.now part)) }
+        ensures there { result.0 + result.1 ≤ self.now.units }
+        ensures small { self.now.units < 2 ^ 32 }
+        ensures some { 0 < result.1 }
+        ensures rest { place + result.1 ≤ length (units_of self.now part) }
+        ensures each { (k : ℕ) → k < result.1 →
+            slice_index (units_of self.now part) (place + k) ≡ result.0 + k }
+        ensures one_owner { OneOwner self.now }
+    {
+        let first = self.unit_after(part, place, last);
+        (first, self.run_of(part, place, first))
+    }
+
+    /// The unit at a place, where `last` is the one before.
+    fn unit_after(&self, part: u32, place: u32, last: u32) -> u32
+        requires part { part < length self.now.parts }
+        requires place { place < length (units_of self.now part) }
+        requires later { 0 < place }
+        requires last { last ≡ slice_index (units_of self.now part) (place - 1) }
+        ensures unit { result ≡ slice_index (units_of self.now part) place }
+        ensures one_owner { OneOwner self.now }
+    {
+        self.next[last as usize]
+    }
+
+    /// How many units from a place on have consecutive ascending numbers, where `first` stands there.
+    fn run_of(&self, part: u32, place: u32, first: u32) -> u32
+        requires part { part < length self.now.parts }
+        requires place { place < length (units_of self.now part) }
+        requires first { first ≡ slice_index (units_of self.now part) place }
+        ensures run { result ≡ run_from first (drop place (units_of self.now part)) }
+        ensures small { self.now.units < 2 ^ 32 }
+        ensures one_owner { OneOwner self.now }
+    {
+        run_length(&self.next, first, self.chains[part as usize].count - place)
     }
 
     fn is_owned(&self, unit: u32) -> bool

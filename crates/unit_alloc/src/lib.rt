@@ -5,6 +5,8 @@
 //! has the same contracts over a body that only scans, and serves as a measure in tests.
 #![tactic(auto)]
 
+ghost use Rattle.unit_alloc.specs.Laws.{FreeCount, HandedUnits, HandedTimes, HandedTwice};
+
 mod errors;
 mod fill;
 mod kept;
@@ -14,5 +16,14 @@ mod sum;
 #[cfg(test)]
 mod tests;
 
-pub use errors::{Memory, NoSpace, Owned};
+pub use errors::{NoSpace, Owned};
 pub use kept::Owners;
+
+/// The laws of owners.
+#[tactic(auto, using(crate::proofs::OwnerLaws::laws))]
+pub fn laws()
+    ensures free_count { FreeCount }
+    ensures handed_units { HandedUnits }
+    ensures handed_times { HandedTimes }
+    ensures handed_twice { HandedTwice }
+{}

@@ -6,7 +6,8 @@ ghost use Rattle.unit_alloc.specs.Log.{given, replayed};
 ghost use Rattle.unit_alloc.specs.Owning.{kept};
 
 use crate::sum::is_sum;
-use crate::{Memory, NoSpace, Owned};
+use crate::{NoSpace, Owned};
+use fb_frame::memory::Memory;
 use std::alloc::Global;
 use std::marker::Model;
 
@@ -128,6 +129,7 @@ impl PlainOwners {
     pub fn count(&self, part: u32) -> u32
         requires { part < length self.now.parts }
         ensures count { result ≡ length (units_of self.now part) }
+        ensures small { self.now.units < 2 ^ 32 }
         ensures one_owner { OneOwner self.now }
     {
         count_entries(&self.entries, part)
@@ -138,6 +140,7 @@ impl PlainOwners {
         requires part { part < length self.now.parts }
         requires place { place < length (units_of self.now part) }
         ensures unit { result ≡ slice_index (units_of self.now part) place }
+        ensures there { result < self.now.units }
         ensures one_owner { OneOwner self.now }
     {
         nth_unit(&self.entries, part, place)
@@ -145,20 +148,59 @@ impl PlainOwners {
 
     /// The unit at a place of a part's list, and how many units from there on have consecutive
     /// ascending numbers.
+    #[tactic(auto, using(crate::proofs::RunLemmas::runs))]
     pub fn run_at(&self, part: u32, place: u32) -> (u32, u32)
         requires part { part < length self.now.parts }
         requires place { place < length (units_of self.now part) }
         ensures unit { result.0 ≡ slice_index (units_of self.now part) place }
         ensures run { result.1 ≡ run_from result.0 (drop place (units_of self.now part)) }
+        ensures there { result.0 + result.1 ≤ self.now.units }
+        ensures small { self.now.units < 2 ^ 32 }
+        ensures some { 0 < result.1 }
+        ensures rest { place + result.1 ≤ length (units_of self.now part) }
+        ensures each { (k : ℕ) → k < result.1 →
+            slice_index (units_of self.now part) (place + k) ≡ result.0 + k }
+        ensures one_owner { OneOwner self.now }
+    {
+        let first = self.unit_at(part, place);
+        (first, self.run_of(part, place, first))
+    }
+
+    /// The run at a place after the first, where `last` is the unit at the place before.
+    #[tactic(auto, using(crate::proofs::RunLemmas::runs))]
+    pub fn run_after(&self, part: u32, place: u32, _last: u32) -> (u32, u32)
+        requires part { part < length self.now.parts }
+        requires place { place < length (units_of self.now part) }
+        requires later { 0 < place }
+        requires last { _last ≡ slice_index (units_of self.now part) (place - 1) }
+        ensures unit { result.0 ≡ slice_index (units_of self.now part) place }
+        ensures run { result.1 ≡ run_from result.0 (drop place (units_of self.now part)) }
+        ensures there { result.0 + result.1 ≤ self.now.units }
+        ensures small { self.now.units < 2 ^ 32 }
+        ensures some { 0 < result.1 }
+        ensures rest { place + result.1 ≤ length (units_of self.now part) }
+        ensures each { (k : ℕ) → k < result.1 →
+            slice_index (units_of self.now part) (place + k) ≡ result.0 + k }
+        ensures one_owner { OneOwner self.now }
+    {
+        self.run_at(part, place)
+    }
+
+    /// How many units from a place on have consecutive ascending numbers, where `first` stands there.
+    fn run_of(&self, part: u32, place: u32, first: u32) -> u32
+        requires part { part < length self.now.parts }
+        requires place { place < length (units_of self.now part) }
+        requires first { first ≡ slice_index (units_of self.now part) place }
+        ensures run { result ≡ run_from first (drop place (units_of self.now part)) }
+        ensures small { self.now.units < 2 ^ 32 }
         ensures one_owner { OneOwner self.now }
     {
         let count = self.count(part);
-        let first = self.unit_at(part, place);
         let mut run = 1;
         while run < count - place && is_sum(self.unit_at(part, place + run), first, run) {
             run += 1;
         }
-        (first, run)
+        run
     }
 
     fn is_owned(&self, unit: u32) -> bool

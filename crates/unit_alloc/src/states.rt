@@ -1,8 +1,8 @@
 ghost use Rattle.std.specs.Prelude.{◌≡◌, ◌<◌, ◌≤◌, ◌+◌, ◌*◌, ◌/◌, ◌^◌, ◌==◌, ◌||◌, ◌&&◌, not, ℕ, true, false, IsSome, IfOk, length, replicate, slice_index_or, slice_set, nat_lt};
 ghost use Rattle.unit_alloc.specs.Marks.{is_marked};
 
-use crate::Memory;
 use crate::fill::filled;
+use fb_frame::memory::Memory;
 use std::alloc::Global;
 use std::marker::Model;
 
@@ -99,7 +99,8 @@ impl States {
 fn mark(words: &mut Vec<u64>, unit: u32)
     requires { unit < 64 * length words.old.items }
     ensures long { length words.new.items ≡ length words.old.items }
-    ensures marks { (other : ℕ) → is_marked words.new.items other ≡ (other == unit || is_marked words.old.items other) }
+    ensures marks { (other : ℕ) →
+        is_marked words.new.items other ≡ (other == unit || is_marked words.old.items other) }
 {
     words[unit as usize / 64] |= 1 << (unit % 64);
 }
@@ -108,7 +109,8 @@ fn mark(words: &mut Vec<u64>, unit: u32)
 fn unmark(words: &mut Vec<u64>, unit: u32)
     requires { unit < 64 * length words.old.items }
     ensures long { length words.new.items ≡ length words.old.items }
-    ensures marks { (other : ℕ) → is_marked words.new.items other ≡ (not (other == unit) && is_marked words.old.items other) }
+    ensures marks { (other : ℕ) →
+        is_marked words.new.items other ≡ (not (other == unit) && is_marked words.old.items other) }
 {
     words[unit as usize / 64] &= !(1 << (unit % 64));
 }

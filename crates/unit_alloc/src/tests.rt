@@ -1,7 +1,8 @@
-ghost use Rattle.std.specs.Prelude.{◌≡◌, length};
+ghost use Rattle.std.specs.Prelude.{◌≡◌, ◌<◌, length};
 
 use crate::Owners;
 use crate::plain::PlainOwners;
+use std::alloc::{AllocError, Global};
 use std::process::Abort;
 use std::test::Fail;
 
@@ -20,8 +21,30 @@ fn reuses_the_lowest_unit(rt: HostRuntime) -> Result<(), Fail> {
     assert_eq!(rt; owners.count(1), 3);
     assert_eq!(rt; owners.run_at(1, 0), (1, 2));
     assert_eq!(rt; owners.run_at(1, 2), (0, 1));
+    let runs = runs_of(rt.alloc(), &owners, 1)?;
+    assert_eq!(rt; runs.as_slice(), [(1, 2), (0, 1)].as_slice());
     assert_eq!(rt; owners.free(), 5);
     Ok(())
+}
+
+/// The runs of a part, each by one step from the one before.
+fn runs_of(alloc: Global, owners: &Owners, part: u32) -> Result<Vec<(u32, u32)>, AllocError>
+    requires { part < length owners.now.parts }
+{
+    let mut runs = Vec::new(alloc);
+    let count = owners.count(part);
+    if count == 0 {
+        return Ok(runs);
+    }
+    let (mut first, mut run) = owners.run_at(part, 0);
+    let mut end = run;
+    runs.push((first, run))?;
+    while end < count {
+        (first, run) = owners.run_after(part, end, first + (run - 1));
+        end += run;
+        runs.push((first, run))?;
+    }
+    Ok(runs)
 }
 
 /// The kept owners answer a list of calls as the plain ones do.
@@ -81,6 +104,14 @@ fn compare(rt: &impl Abort, kept: &Owners, plain: &PlainOwners)
         for place in 0..count {
             assert_eq!(rt; kept.unit_at(part, place), plain.unit_at(part, place));
             assert_eq!(rt; kept.run_at(part, place), plain.run_at(part, place));
+        }
+        for place in 1..count {
+            let last = kept.unit_at(part, place - 1);
+            let step = kept.run_after(part, place, last);
+            assert_eq!(rt;
+                step,
+                plain.run_after(part, place, plain.unit_at(part, place - 1))
+            );
         }
     }
 }

@@ -1,60 +1,7 @@
--- The steps along the chain lead to the unit at the place, and the run goes on along the chain.
-use Rattle.std.proofs.Common.{ℕ, ◌≡◌, ◌<◌, ◌-◌, ◌+◌, List, length, drop, ap, sym, subst, ◌∙◌, arith}
-use Rattle.unit_alloc.specs.Owning.{run_from, units_of}
-use Rattle.unit_alloc.specs.Chains.{stepped, linked}
-use Rattle.unit_alloc.proofs.LinkedLemmas.{stepped-stepped, drop-linked}
-use Rattle.unit_alloc.proofs.ChainedLemmas.{length-view, steps-view, unit_at-view, units_of-view}
+use Rattle.unit_alloc.specs.Owning.{units_of}
+use Rattle.unit_alloc.proofs.RunLemmas.{run-each}
 use Rattle.unit_alloc.proofs.kept.Owners.run_at.Goals as goal
 
-pub walk-first-requires : goal.walk-first-requires
-walk-first-requires c =
-    let a = c.self.inside in
-    let ch = c.index-chain.result.now in
-    let n = length-view a.states a.next.items a.chains.items c.args.self.now c.args.part ch c.self.view_is c.requires.part c.index-chain.ensures in
-    subst (λ (next : List ℕ). (k : ℕ) → k < c.args.place → stepped next ch.first k < length next) (sym c.deref.ensures.value)
-    (λ k lt. steps-view a.states a.next.items a.chains.items c.args.self.now c.args.part ch c.self.view_is c.requires.part c.index-chain.ensures c.self.invariant k (omega (arith, c.requires.place)))
-
-pub overflow_sub-chain : goal.overflow_sub-chain
-overflow_sub-chain c =
-    let a = c.self.inside in
-    let n = length-view a.states a.next.items a.chains.items c.args.self.now c.args.part c.index-chain.result.now c.self.view_is c.requires.part c.index-chain.ensures in
-    omega (arith, c.requires.place)
-
-pub run_length-requires-clause-some : goal.run_length-requires-clause-some
-run_length-requires-clause-some c =
-    let a = c.self.inside in
-    let n = length-view a.states a.next.items a.chains.items c.args.self.now c.args.part c.index-chain.result.now c.self.view_is c.requires.part c.index-chain.ensures in
-    omega (arith, c.requires.place)
-
-pub run_length-requires-clause-within : goal.run_length-requires-clause-within
-run_length-requires-clause-within c =
-    let a = c.self.inside in
-    let ch = c.index-chain.result.now in
-    let first : c.walk-first.result ≡ stepped a.next.items ch.first c.args.place = c.walk-first.ensures ∙ ap (λ (next : List ℕ). stepped next ch.first c.args.place) c.deref.ensures.value in
-    subst (λ (next : List ℕ). (k : ℕ) → k < ch.count - c.args.place → stepped next c.walk-first.result k < length next) (sym c.deref-2.ensures.value)
-    (λ k lt. subst (λ (u : ℕ). stepped a.next.items u k < length a.next.items) (sym first)
-    (subst (λ (u : ℕ). u < length a.next.items) (sym (stepped-stepped a.next.items ch.first c.args.place k))
-    (steps-view a.states a.next.items a.chains.items c.args.self.now c.args.part ch c.self.view_is c.requires.part c.index-chain.ensures c.self.invariant (c.args.place + k) (omega arith))))
-
-pub returns-clause-unit : goal.returns-clause-unit
-returns-clause-unit c =
-    let a = c.self.inside in
-    let ch = c.index-chain.result.now in
-    let n = length-view a.states a.next.items a.chains.items c.args.self.now c.args.part ch c.self.view_is c.requires.part c.index-chain.ensures in
-    c.walk-first.ensures
-    ∙ ap (λ (next : List ℕ). stepped next ch.first c.args.place) c.deref.ensures.value
-    ∙ unit_at-view a.states a.next.items a.chains.items c.args.self.now c.args.part c.args.place ch c.self.view_is c.requires.part c.index-chain.ensures (omega (arith, c.requires.place))
-
-pub returns-clause-run : goal.returns-clause-run
-returns-clause-run c =
-    let a = c.self.inside in
-    let ch = c.index-chain.result.now in
-    let next = a.next.items in
-    let u : ℕ = c.walk-first.result in
-    let n = length-view a.states next a.chains.items c.args.self.now c.args.part ch c.self.view_is c.requires.part c.index-chain.ensures in
-    let first : u ≡ stepped next ch.first c.args.place = c.walk-first.ensures ∙ ap (λ (l : List ℕ). stepped l ch.first c.args.place) c.deref.ensures.value in
-    let list : linked next u (ch.count - c.args.place) ≡ drop c.args.place (units_of c.args.self.now c.args.part) =
-    ap (λ (x : ℕ). linked next x (ch.count - c.args.place)) first
-    ∙ sym (drop-linked next ch.first c.args.place ch.count (omega (arith, c.requires.place)))
-    ∙ ap (drop c.args.place) (sym (units_of-view a.states next a.chains.items c.args.self.now c.args.part ch c.self.view_is c.requires.part c.index-chain.ensures)) in
-    c.run_length.ensures ∙ ap (λ (l : List ℕ). run_from u (linked l u (ch.count - c.args.place))) c.deref-2.ensures.value ∙ ap (run_from u) list
+pub returns-clause-each : goal.returns-clause-each
+returns-clause-each c k h =
+    run-each (units_of c.args.self.now c.args.part) c.args.place c.unit_at-first.result c.run_of.result c.run_of.ensures.run k h

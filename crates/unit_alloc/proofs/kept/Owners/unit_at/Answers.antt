@@ -1,7 +1,9 @@
 -- The steps along the chain lead to the unit at the place.
 use Rattle.std.proofs.Common.{ℕ, ◌<◌, List, length, ap, sym, subst, ◌∙◌, arith}
+use Rattle.unit_alloc.specs.Owning.{OneOwner}
 use Rattle.unit_alloc.specs.Chains.{stepped}
 use Rattle.unit_alloc.proofs.ChainedLemmas.{length-view, steps-view, unit_at-view}
+use Rattle.unit_alloc.proofs.RunLemmas.{unit-is_there}
 use Rattle.unit_alloc.proofs.kept.Owners.unit_at.Goals as goal
 
 pub walk-requires : goal.walk-requires
@@ -20,3 +22,8 @@ returns-clause-unit c =
     c.walk.ensures
     ∙ ap (λ (next : List ℕ). stepped next ch.first c.args.place) c.deref.ensures.value
     ∙ unit_at-view a.states a.next.items a.chains.items c.args.self.now c.args.part c.args.place ch c.self.view_is c.requires.part c.index.ensures (omega (arith, c.requires.place))
+
+pub returns-clause-there : goal.returns-clause-there
+returns-clause-there c =
+    let one : OneOwner c.args.self.now = subst OneOwner c.self.view_is c.self.invariant.one in
+    unit-is_there c.args.self.now c.args.part c.args.place c.walk.result one c.requires.part c.requires.place (returns-clause-unit c)

@@ -2,7 +2,7 @@
 use Rattle.std.proofs.Common.{ℕ, List, length, arith, ap, sym, ◌∙◌}
 use Rattle.unit_alloc.specs.declared.plain.Entry.{Entry}
 use Rattle.unit_alloc.specs.Log.{given}
-use Rattle.unit_alloc.proofs.LogLemmas.{log_fits, units_of-view}
+use Rattle.unit_alloc.proofs.LogLemmas.{log_fits, units-view, units_of-view}
 use Rattle.unit_alloc.proofs.plain.PlainOwners.count.Goals as goal
 
 pub count_entries-requires : goal.count_entries-requires
@@ -16,3 +16,10 @@ returns-clause-count c =
     c.count_entries.ensures
     ∙ ap (λ (entries : List Entry). length (given c.args.part entries)) c.deref.ensures.value
     ∙ ap (length {A = ℕ}) (sym (units_of-view c.args.part a.units a.parts a.entries.items c.args.self.now c.self.view_is c.requires))
+
+pub returns-clause-small : goal.returns-clause-small
+returns-clause-small c =
+    let a = c.self.inside in
+    let u = units-view a.units a.parts a.entries.items c.args.self.now c.self.view_is in
+    let small = c.self.invariant.2 in
+    omega (arith, u, small)

@@ -1,6 +1,6 @@
 use Rattle.std.proofs.Common.{◌≡◌, ◌+◌, ◌-◌, ◌≤◌, drop, length}
 use Rattle.unit_alloc.specs.Owning.{run_from, units_of}
-use Rattle.unit_alloc.proofs.plain.PlainOwners.run_at.Given as goal
+use Rattle.unit_alloc.proofs.plain.PlainOwners.run_of.Given as goal
 
 abbrev pub invariant-loop-run : goal.invariant-loop-run
 invariant-loop-run l =
