@@ -1,24 +1,18 @@
 -- Resuming what a chain of attempts left, from resuming what one left.
-use Rattle.std.proofs.Common.{◌≡◌, inl, inr, ℕ, Bool, true, false, Option, Some, None, List, [], ◌∷◌, map, take, All, refl, sym, ap, ◌∙◌, subst, slice_get}
+use Rattle.std.proofs.Common.{◌≡◌, inl, inr, ℕ, Bool, true, false, Option, Some, None, List, [], ◌∷◌, take, All, refl, sym, ap, ◌∙◌, subst, slice_get}
 use Rattle.std.specs.Prelude.{MatchBool, is_none}
 use Rattle.dev_model.specs.declared.device.Dev.{Dev}
-use Rattle.dev_model.specs.declared.device.Physical.{Physical}
-use Rattle.dev_model.specs.declared.device.Mode.{Mode}
-use Rattle.dev_model.specs.declared.device.Mode.TheVariants.{Bootloader, Userspace, System, Recovery, Halted}
 use Rattle.dev_model.specs.declared.step.Step.{Step}
 use Rattle.dev_model.specs.declared.step.Step.TheVariants.{Active, Resize, Put, Wipe, Table, Boot}
 use Rattle.dev_model.specs.Attempts.{Left, IsNextAtMost, LeftBehind, LeftHalted, Chain, is_halted}
 use Rattle.dev_model.specs.Options.{◌>>=◌, needs}
-use Rattle.dev_model.specs.Partitions.{is_fastboot, physical_changed}
+use Rattle.dev_model.specs.Partitions.{is_fastboot}
 use Rattle.dev_model.specs.Steps.{run, can, apply}
-use Rattle.dev_model.proofs.LeftValid.{left_valid}
+use Rattle.dev_model.proofs.LeftValid.{left_valid, not-halted, the-second}
 use Rattle.dev_model.specs.Repeats.{IsRepeatable}
 use Rattle.dev_model.specs.Resuming.{Resumes, ResumesChain, ResumesUnrefused, ResumesRefused, fixed_names}
 use Rattle.dev_model.proofs.RefusingLemmas.{run_unrefused, refused_unless_run}
-
-names-kept : (name : List ℕ) (change : List ℕ → List ℕ) (ps : List Physical) → map (λ p. p.name) (map (physical_changed name change) ps) ≡ map (λ p. p.name) ps
-names-kept name change [] = refl
-names-kept name change (p ∷ ps) = ap (λ xs. p.name ∷ xs) (names-kept name change ps)
+use Rattle.dev_model.proofs.Valid.{names-kept}
 
 -- no step changes the names of physical partitions
 pub apply-fixed : (step : Step) (dev : Dev) → fixed_names (apply step dev) ≡ fixed_names dev
@@ -53,17 +47,6 @@ next-fixed (Some (Boot mode)) dev t (inr (inr h)) = absurd h
 -- nor does what an attempt leaves
 pub left-fixed : (plan : List Step) (s : Dev) (a : ℕ) (t : Dev) → Left plan s a t → fixed_names t ≡ fixed_names s
 left-fixed plan s a t l = next-fixed (slice_get plan a) l.before t l.next ∙ run-fixed (take a plan) s l.before l.taken
-
-not-halted : (mode : Mode) → is_fastboot mode ≡ true → is_halted mode ≡ false
-not-halted Bootloader e = refl
-not-halted Userspace e = refl
-not-halted System e = refl
-not-halted Recovery e = refl
-not-halted Halted e = absurd cc
-
-the-second : (b : Bool) (P Q : Type 0) → b ≡ false → MatchBool b P Q → Q
-the-second true P Q e h = absurd cc
-the-second false P Q e h = h
 
 -- what an attempt leaves that runs fastboot
 pub unhalted : (plan : List Step) (s : Dev) (a : ℕ) (t : Dev) → is_fastboot t.mode ≡ true → LeftBehind plan s a t → Left plan s a t

@@ -30,6 +30,7 @@ use Rattle.dev_model.proofs.SimLemmas.{Base}
 use Rattle.dev_model.proofs.SimTable.{Before, Behind, fixed-absent}
 use Rattle.dev_model.proofs.TableAgain.{log-same}
 use Rattle.dev_model.proofs.RefusalAgain.{refusal-same, merged-same}
+use Rattle.dev_model.proofs.Valid.{names-kept}
 
 pub covered-trans : (a b c : List Cell) → Covered a b → Covered b c → Covered a c
 covered-trans [] b c h g = tt
@@ -116,10 +117,6 @@ log-sized all q name n m (x ∷ xs) (y ∷ ys) h = (
 pub phys-same : (q : List Step) (xs : List Physical) → Phys q xs xs
 phys-same q [] = tt
 phys-same q (x ∷ xs) = (refl, refl, refl, phys-same q xs)
-
-names-kept : (name : List ℕ) (change : List ℕ → List ℕ) (ps : List Physical) → map (λ p. p.name) (map (physical_changed name change) ps) ≡ map (λ p. p.name) ps
-names-kept name change [] = refl
-names-kept name change (p ∷ ps) = ap (λ xs. p.name ∷ xs) (names-kept name change ps)
 
 -- A device on the way from s through a plan.
 pub record OnWay (fixed : List (List ℕ)) (whole : List Step) (s d : Dev) : Type 0 where

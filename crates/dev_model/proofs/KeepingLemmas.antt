@@ -24,6 +24,7 @@ use Rattle.dev_model.proofs.FixedValid.{fit, fit-keeps, fixed-fit}
 use Rattle.dev_model.proofs.LeftValid.{left_valid}
 use Rattle.dev_model.proofs.Runs.{over_length}
 use Rattle.dev_model.proofs.ValidBytes.{KeepsLength}
+use Rattle.dev_model.proofs.Valid.{names-kept}
 
 same-self : (dev : Dev) → IsSameDevice dev dev
 same-self dev = record { all = refl; names = refl; lengths = refl }
@@ -62,10 +63,6 @@ lengths-kept name change (p ∷ ps) k =
     let first = one-length (bytes_eq p.name name) change p.bytes k in
     let rest = lengths-kept name change ps k in
     λ i. first i ∷ rest i
-
-names-kept : (name : List ℕ) (change : List ℕ → List ℕ) (ps : List Physical) → map (λ p. p.name) (map (physical_changed name change) ps) ≡ map (λ p. p.name) ps
-names-kept name change [] = refl
-names-kept name change (p ∷ ps) = ap (λ xs. p.name ∷ xs) (names-kept name change ps)
 
 pub same-bytes : (name : List ℕ) (change : List ℕ → List ℕ) (dev : Dev) → KeepsLength change → IsSameDevice dev (with_bytes name change dev)
 same-bytes name change dev k = record {

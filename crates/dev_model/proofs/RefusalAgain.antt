@@ -12,7 +12,8 @@ use Rattle.dev_model.specs.Options.{first_passed}
 use Rattle.dev_model.specs.Partitions.{is_physical, is_super}
 use Rattle.dev_model.specs.Sizes.{sizes_of, groups_fit}
 use Rattle.dev_model.specs.Tables.{is_group, kept, listed, left_over, merged, is_bad_table, table_refusal}
-use Rattle.dev_model.specs.Validity.{IsValid, are_distinct}
+use Rattle.fb_frame.specs.Distinct.{are_distinct}
+use Rattle.dev_model.specs.Validity.{IsValid}
 use Rattle.dev_model.specs.Repeats.{is_among}
 use Rattle.dev_model.specs.Resuming.{fixed_names}
 use Rattle.dev_model.proofs.AlignedLemmas.{Log, physical-among}

@@ -13,13 +13,14 @@ use Rattle.dev_model.specs.Attempts.{IsNextAtMost}
 use Rattle.dev_model.specs.Options.{◌>>=◌, needs}
 use Rattle.dev_model.specs.Partitions.{is_fastboot, has_slots}
 use Rattle.dev_model.specs.Steps.{run, can, apply, activated, with_fresh, is_boot}
-use Rattle.dev_model.specs.Validity.{IsValid, IsStep, are_distinct}
-use Rattle.dev_model.proofs.Valid.{both, and-true}
+use Rattle.fb_frame.specs.Distinct.{are_distinct}
+use Rattle.dev_model.specs.Validity.{IsValid, IsStep}
+use Rattle.dev_model.proofs.Valid.{both, and-true, not-back, or-left, or-right, or-false}
 use Rattle.dev_model.proofs.Keeps.{keeps_valid}
 use Rattle.dev_model.specs.Repeats.{IsRepeatable, is_among, are_among, is_active, is_table, is_logical_step, tables_first, boots_first, resized_name, resized_names, empties_first}
 use Rattle.dev_model.specs.Resuming.{Resumes, fixed_names}
 use Rattle.dev_model.proofs.CellLemmas.{IsWritten, all-written}
-use Rattle.dev_model.proofs.SimLemmas.{Modes, Fine, sim-run, or-false}
+use Rattle.dev_model.proofs.SimLemmas.{Modes, Fine, sim-run}
 use Rattle.dev_model.proofs.SimTable.{simtable-run}
 use Rattle.dev_model.proofs.TableAgain.{log-same}
 use Rattle.dev_model.proofs.EntryLemmas.{OnWay, IsIn, Plainly, Early, Late, Keeps, keeps-plainly, keeps-early, keeps-late, left-keeps, left-tabled, phys-same}
@@ -67,13 +68,6 @@ all-left P (x ∷ xs) ys h = (h.0, all-left P xs ys h.1)
 all-right : {X : Type 0} (P : X → Type 0) (xs ys : List X) → AllByRecursion P (xs ++ ys) → AllByRecursion P ys
 all-right P [] ys h = h
 all-right P (x ∷ xs) ys h = all-right P xs ys h.1
-
-or-right : (a b : Bool) → b ≡ true → (a || b) ≡ true
-or-right true b e = refl
-or-right false b e = e
-
-or-left : (a b : Bool) → a ≡ true → (a || b) ≡ true
-or-left a b e = ap (λ c. c || b) e
 
 -- a test that an element passes some element passes
 any-more : {X : Type 0} (f : X → Bool) (x : X) (xs : List X) (some : List X) → AllByRecursion (λ y. f y ≡ true → list_any f xs ≡ true) some → AllByRecursion (λ y. f y ≡ true → list_any f (x ∷ xs) ≡ true) some
@@ -168,10 +162,6 @@ record Parted (fixed : List (List ℕ)) (q : List Step) : Type 0 where
   plain : Plain fixed pre
   once : list_any is_table post ≡ false
 
-not-false : (b : Bool) → not b ≡ true → b ≡ false
-not-false true e = absurd cc
-not-false false e = refl
-
 logical-case : (fixed : List (List ℕ)) (step : Step) (q : List Step) (b : Bool) → is_logical_step fixed step ≡ b → (if b then not (list_any is_table q) else true) ≡ true → list_any is_table q ≡ true → b ≡ false
 logical-case fixed step q false e h t = refl
 logical-case fixed step q true e h t = absurd cc
@@ -199,7 +189,7 @@ parted : (fixed : List (List ℕ)) (q : List Step) → list_any is_table q ≡ t
 parted fixed [] t a h = absurd cc
 parted fixed (Table tables wipe ∷ q) t a h =
     let two = both (not (list_any is_table q)) (tables_first fixed q) h in
-    record { pre = []; tables = tables; wipe = wipe; post = q; whole = refl; plain = tt; once = not-false (list_any is_table q) two.0 }
+    record { pre = []; tables = tables; wipe = wipe; post = q; whole = refl; plain = tt; once = not-back (list_any is_table q) two.0 }
 parted fixed (Active slot ∷ q) t a h = absurd cc
 parted fixed (Put name cells ∷ q) t a h = parted-step fixed (Put name cells) q refl t a h (parted fixed q)
 parted fixed (Wipe name ∷ q) t a h = parted-step fixed (Wipe name) q refl t a h (parted fixed q)
@@ -386,10 +376,6 @@ active-resumes slot q s t before (suc a) h n o v f e x =
     let can_t = active-can slot s t f there parts.0 in
     let rest = serves-case (fixed_names s) q (activated slot s) t before a (is_fastboot s.mode) refl o refl (keeps_valid (Active slot) s tt v parts.0) f parts.1 x in
     run-active slot q t can_t ∙ (ap (run q) (active-again slot s t there) ∙ (rest ∙ sym (run-active slot q s parts.0)))
-
-not-back : (b : Bool) → not b ≡ true → b ≡ false
-not-back true e = absurd cc
-not-back false e = refl
 
 pub resumes : Resumes
 resumes [] s a t h r v l f = end a l.taken l.next where

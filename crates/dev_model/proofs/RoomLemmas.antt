@@ -1,5 +1,5 @@
 -- The room that one more partition takes.
-use Rattle.std.proofs.Common.{◌≡◌, ℕ, ◌+◌, Bool, true, false, List, [], ◌∷◌, ◌++◌, map, filter, refl, ap, sym, ◌∙◌, arith}
+use Rattle.std.proofs.Common.{◌≡◌, ℕ, ◌+◌, Bool, true, false, List, [], ◌∷◌, ◌++◌, filter, refl, ap, sym, arith}
 use Rattle.std.specs.Prelude.{sum_by, nat_le, ◌==◌, ◌||◌, ◌&&◌, if◌then◌else◌, bytes_eq, cond, codes}
 use Rattle.std.specs.List.{list_all}
 use Rattle.std.proofs.lemmas.List.Sums.{sum_by-cons, sum_by-append}

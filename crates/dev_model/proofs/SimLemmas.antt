@@ -1,5 +1,5 @@
 -- Two devices that a plan without a table makes equal.
-use Rattle.std.proofs.Common.{◌≡◌, ◌⊎◌, inl, inr, ℕ, Bool, true, false, Some, List, [], ◌∷◌, length, map, refl, sym, ap, ◌∙◌, subst, arith}
+use Rattle.std.proofs.Common.{◌≡◌, ◌⊎◌, inl, inr, ℕ, Bool, true, false, Some, List, [], ◌∷◌, length, refl, sym, ap, ◌∙◌, subst, arith}
 use Rattle.std.specs.Prelude.{bytes_eq, if◌then◌else◌, not, ◌||◌, ◌&&◌, ◌==◌, nat_lt, find, option_map}
 use Rattle.std.specs.List.{list_any, AllByRecursion}
 use Rattle.std.proofs.lemmas.Bool.Decides.{nat_tests}
@@ -7,17 +7,16 @@ use Rattle.std.proofs.lemmas.Slice.Eq.{bytes_eq-Decides}
 use Rattle.dev_model.specs.declared.cells.Cell.{Cell}
 use Rattle.dev_model.specs.declared.device.Dev.{Dev}
 use Rattle.dev_model.specs.declared.device.Mode.{Mode}
-use Rattle.dev_model.specs.declared.device.Physical.{Physical}
 use Rattle.dev_model.specs.declared.step.Step.{Step}
 use Rattle.dev_model.specs.declared.step.Step.TheVariants.{Active, Resize, Put, Wipe, Table, Boot}
 use Rattle.dev_model.specs.Options.{◌>>=◌, needs}
 use Rattle.dev_model.specs.Images.{over, round_up}
-use Rattle.dev_model.specs.Partitions.{is_fastboot, is_userspace, is_physical, is_logical, is_target, with_bytes, with_logical_bytes, physical_changed}
+use Rattle.dev_model.specs.Partitions.{is_fastboot, is_userspace, is_physical, is_logical, is_target, with_bytes, with_logical_bytes}
 use Rattle.dev_model.specs.Refusals.{is_too_large}
 use Rattle.dev_model.specs.Sizes.{sizes_of, resized, units_fit, groups_fit}
 use Rattle.dev_model.specs.Steps.{run, can, apply, meets, is_boot, wiped, cut_or_padded}
 use Rattle.dev_model.specs.Validity.{IsValid, IsStep}
-use Rattle.dev_model.proofs.Valid.{both}
+use Rattle.dev_model.proofs.Valid.{both, names-kept, or-false, or-left, or-right}
 use Rattle.dev_model.proofs.Keeps.{keeps_valid}
 use Rattle.dev_model.specs.Repeats.{is_among, are_among, is_active, is_table, is_logical_step, boots_first, resized_names, empties_first}
 use Rattle.dev_model.specs.Resuming.{fixed_names}
@@ -60,24 +59,9 @@ pub record Fine (all done : List (List ℕ)) (q : List Step) : Type 0 where
   pub due : Due all done q
   pub inside : (own : List ℕ) → is_among (resized_names q) own ≡ true → is_among all own ≡ true
 
-pub or-false : (a b : Bool) → (a || b) ≡ false → (a ≡ false) × (b ≡ false)
-or-false true b e = absurd cc
-or-false false b e = (refl, e)
-
-pub not-true : (b : Bool) → not b ≡ true → b ≡ false
-not-true true e = absurd cc
-not-true false e = refl
-
 not-not : (b : Bool) → not (not b) ≡ true → b ≡ true
 not-not true e = refl
 not-not false e = absurd cc
-
-or-left : (a b : Bool) → a ≡ true → (a || b) ≡ true
-or-left a b e = ap (λ c. c || b) e
-
-or-right : (a b : Bool) → b ≡ true → (a || b) ≡ true
-or-right true b e = refl
-or-right false b e = e
 
 same-zero : (n : ℕ) → (n == 0) ≡ true → n ≡ 0
 same-zero n e = grind (arith, nat_tests)
@@ -149,10 +133,6 @@ all-among done [] own e h = absurd cc
 all-among done (x ∷ all) own e h =
     let parts = both (is_among done x) (are_among done all) e in
     among-case done all x own (bytes_eq x own) refl h parts.0 (all-among done all own parts.1)
-
-names-kept : (name : List ℕ) (change : List ℕ → List ℕ) (ps : List Physical) → map (λ p. p.name) (map (physical_changed name change) ps) ≡ map (λ p. p.name) ps
-names-kept name change [] = refl
-names-kept name change (p ∷ ps) = ap (λ xs. p.name ∷ xs) (names-kept name change ps)
 
 -- What can be done is the same, and leaves devices that the rest makes the same.
 pub record Next (fixed all done : List (List ℕ)) (step : Step) (q : List Step) (t s : Dev) : Type 0 where

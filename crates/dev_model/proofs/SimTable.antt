@@ -12,13 +12,14 @@ use Rattle.dev_model.specs.declared.device.Physical.{Physical}
 use Rattle.dev_model.specs.declared.step.Step.{Step}
 use Rattle.dev_model.specs.declared.step.Step.TheVariants.{Active, Resize, Put, Wipe, Table, Boot}
 use Rattle.dev_model.specs.Images.{over}
-use Rattle.dev_model.specs.Partitions.{is_userspace, is_physical, is_target, with_bytes, logical_changed, physical_changed}
+use Rattle.dev_model.specs.Partitions.{is_userspace, is_physical, is_target, with_bytes, logical_changed}
 use Rattle.dev_model.specs.Refusals.{is_too_large}
 use Rattle.dev_model.specs.Steps.{run, can, apply, wiped, is_boot}
 use Rattle.dev_model.specs.Tables.{merged, with_tables, table_refusal}
-use Rattle.dev_model.specs.Validity.{IsValid, IsStep, all_names, are_distinct}
+use Rattle.fb_frame.specs.Distinct.{are_distinct}
+use Rattle.dev_model.specs.Validity.{IsValid, IsStep, all_names}
 use Rattle.dev_model.proofs.Names.{Mem, any-mem, distinct-left, distinct-apart}
-use Rattle.dev_model.proofs.Valid.{both}
+use Rattle.dev_model.proofs.Valid.{both, names-kept}
 use Rattle.dev_model.proofs.Keeps.{keeps_valid}
 use Rattle.dev_model.specs.Repeats.{is_among, is_active, is_logical_step}
 use Rattle.dev_model.specs.Resuming.{fixed_names}
@@ -69,10 +70,6 @@ fixed-absent name change dev v e =
     let distinct = (both (list_all is_name (all_names dev)) (are_distinct (all_names dev)) v.names).1 in
     let apart = distinct-apart (fixed_names dev) (map (λ p. p.name) dev.logical) (distinct-left (fixed_names dev ++ map (λ p. p.name) dev.logical) (option_to_list dev.super_name) distinct) in
     absent name change dev.logical (λ m. apart name (any-mem name (fixed_names dev) e) m)
-
-names-kept : (name : List ℕ) (change : List ℕ → List ℕ) (ps : List Physical) → map (λ p. p.name) (map (physical_changed name change) ps) ≡ map (λ p. p.name) ps
-names-kept name change [] = refl
-names-kept name change (p ∷ ps) = ap (λ xs. p.name ∷ xs) (names-kept name change ps)
 
 found-long : (o p c d : Option (List ℕ)) → AsLong o p → (o ≡ None → ⊥) → length (unwrap_or (option_or o c) []) ≡ length (unwrap_or (option_or p d) [])
 found-long None None c d h n = absurd (n refl)

@@ -11,14 +11,13 @@ use Rattle.dev_model.specs.declared.device.Logical.{Logical}
 use Rattle.dev_model.specs.declared.step.Step.{Step}
 use Rattle.dev_model.specs.Sizes.{sizes_of}
 use Rattle.dev_model.specs.Tables.{is_listed, kept_bytes, listed, left_over}
-use Rattle.dev_model.specs.Validity.{are_distinct}
-use Rattle.dev_model.proofs.Valid.{both, and-true}
+use Rattle.fb_frame.specs.Distinct.{are_distinct}
+use Rattle.dev_model.proofs.Valid.{both, and-true, or-false}
 use Rattle.dev_model.proofs.ValidTable.{all-filter}
 use Rattle.dev_model.specs.Repeats.{is_among}
 use Rattle.dev_model.proofs.CellLemmas.{wash}
 use Rattle.dev_model.proofs.AlignedLemmas.{Log, Bytes, log-names}
 use Rattle.dev_model.proofs.RoomAgain.{Less}
-use Rattle.dev_model.proofs.SimLemmas.{or-false}
 
 filter-append : {X : Type 0} (q : X → Bool) (xs ys : List X) → filter q (xs ++ ys) ≡ filter q xs ++ filter q ys
 filter-append q [] ys = refl

@@ -23,12 +23,12 @@ abbrev pub ResumesChain : Type 0
 ResumesChain = (plan : List Step) (s : Dev) (numbers : List ℕ) (t : Dev) → AllByRecursion IsStep plan → IsRepeatable (fixed_names s) plan → IsValid s →
     Chain plan s numbers t → IsTrue (is_fastboot t.mode) → run plan t ≡ run plan s
 
--- Where the plan could be run at first, no step of it is refused later: it asks for no more room than at first.
+-- Where the plan could be run at first, no step of it is refused later, neither for want of room nor for another cause.
 abbrev pub ResumesUnrefused : Type 0
 ResumesUnrefused = (plan : List Step) (s : Dev) (numbers : List ℕ) (t end : Dev) → AllByRecursion IsStep plan → IsRepeatable (fixed_names s) plan →
     IsValid s → Chain plan s numbers t → IsTrue (is_fastboot t.mode) → run plan s ≡ Some end → first_refusal plan t ≡ None
 
--- Where a step of the plan is refused later, one was refused at first.
+-- Where only the last step leaves fastboot, a step of the plan is refused later exactly where one was refused at first.
 abbrev pub ResumesRefused : Type 0
 ResumesRefused = (plan : List Step) (s : Dev) (numbers : List ℕ) (t : Dev) → AllByRecursion IsStep plan → IsRepeatable (fixed_names s) plan →
     IsValid s → IsTrue (leaves_last plan) → Chain plan s numbers t → IsTrue (is_fastboot s.mode) → IsTrue (is_fastboot t.mode) →

@@ -152,8 +152,8 @@ pub fn can(step: &Step, dev: &Dev) -> bool
 
 /// The device after a step that it can take.
 pub fn apply(alloc: Global, step: &Step, dev: &Dev) -> Result<Dev, Memory>
-    requires { IsTrue (can step.now dev.now) }
-    ensures { IfOk result (λ after. after ≡ apply step.now dev.now) }
+    requires taken { IsTrue (can step.now dev.now) }
+    ensures after { IfOk result (λ next. next ≡ apply step.now dev.now) }
 {
     match step {
         Step::Active(slot) => activated(alloc, *slot, dev),

@@ -62,7 +62,8 @@ fn joined(alloc: Global, head: &[u8], tail: &[u8]) -> Result<ByteList, Memory>
     Ok(Items::from_vec(both))
 }
 
-pub fn push_row_of(
+/// Adds a row whose name has two parts.
+pub(crate) fn push_row_of(
     alloc: Global,
     rows: &mut Items<Row>,
     head: &[u8],
@@ -261,7 +262,7 @@ fn push_logical(alloc: Global, rows: &mut Items<Row>, parts: &[Logical]) -> Resu
 }
 
 /// All variables but `has-slot`, in the order in which `all` tells them.
-pub fn plain_rows(alloc: Global, dev: &Dev) -> Result<Items<Row>, Memory>
+pub(crate) fn plain_rows(alloc: Global, dev: &Dev) -> Result<Items<Row>, Memory>
     ensures { IfOk result (λ rows. rows ≡ plain_rows dev.now) }
 {
     let mut rows = Items::new(alloc);
@@ -324,7 +325,12 @@ fn slotted_name(name: &[u8]) -> Option<Name>
     }
 }
 
-pub fn has_slot_text(alloc: Global, dev: &Dev, name: &[u8]) -> Result<Option<ByteList>, Memory>
+/// What `has-slot` tells of a name, None where it has no partition.
+pub(crate) fn has_slot_text(
+    alloc: Global,
+    dev: &Dev,
+    name: &[u8],
+) -> Result<Option<ByteList>, Memory>
     ensures { IfOk result (λ text. text ≡ has_slot dev.now name.now) }
 {
     let answer = has_slot(alloc, dev, name)?;

@@ -10,7 +10,7 @@ use Rattle.std.proofs.lemmas.Option.{none-some}
 use Rattle.std.proofs.lemmas.Str.{IsUtf8-from_ascii}
 use Rattle.std.proofs.lemmas.Fmt.{digits_is_IsNumeral}
 use Rattle.fb_frame.specs.Numbers.{size_text}
-use Rattle.wire_model.proofs.DigitLemmas.{digits-short}
+use Rattle.dev_model.proofs.DigitLemmas.{digits-short}
 use Rattle.fb_top.specs.SizeText.{hex_digits}
 
 -- hexadecimal digits are ASCII, and none is a plus

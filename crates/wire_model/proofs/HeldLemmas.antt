@@ -1,7 +1,7 @@
 -- The tables of a file are such as a step may bring.
 use Rattle.std.proofs.Common.{◌≡◌, ℕ, zero, suc, ◌<◌, Bool, true, false, List, [], ◌∷◌, length, map, refl, ap, ◌∙◌, subst, arith}
-use Rattle.std.specs.Prelude.{◌&&◌, ◌||◌, not, nat_lt, bytes_eq}
-use Rattle.std.specs.List.{list_all, list_any}
+use Rattle.std.specs.Prelude.{◌&&◌, ◌||◌, nat_lt, bytes_eq}
+use Rattle.std.specs.List.{list_all}
 use Rattle.std.proofs.lemmas.Bool.Decides.{nat_tests}
 use Rattle.std.proofs.lemmas.Slice.Eq.{bytes_eq-Decides}
 use Rattle.fb_frame.specs.NameText.{is_name}
@@ -11,12 +11,12 @@ use Rattle.super_meta.specs.declared.table.Partition.{Partition}
 use Rattle.super_meta.specs.declared.table.Group.{Group}
 use Rattle.fb_frame.specs.Versions.{are_attributes}
 use Rattle.super_meta.specs.Contents.{Content, are_named_apart, are_known}
-use Rattle.fb_frame.specs.Distinct.{are_distinct as are_apart}
 use Rattle.super_meta.specs.Held.{group_name, listed, limited, tables_in}
 use Rattle.super_meta.proofs.NameLemmas.{both, bothly}
 use Rattle.super_meta.proofs.HeldLemmas.{IsRead, held-read, all-there}
 use Rattle.dev_model.specs.Tables.{is_group}
-use Rattle.dev_model.specs.Validity.{are_distinct, are_tables}
+use Rattle.fb_frame.specs.Distinct.{are_distinct}
+use Rattle.dev_model.specs.Validity.{are_tables}
 use Rattle.wire_model.specs.TableFile.{HeldTables}
 
 -- a map of a map
@@ -24,13 +24,8 @@ names-kept : {X Y : Type 0} (f : X → Y) (name : Y → List ℕ) (own : X → L
 names-kept f name own same [] = refl
 names-kept f name own same (x ∷ xs) = ap (λ n. n ∷ map name (map f xs)) (same x) ∙ ap (λ t. own x ∷ t) (names-kept f name own same xs)
 
--- the device's word for distinct names and the table's
-distinct-is : (xs : List (List ℕ)) → are_distinct xs ≡ are_apart xs
-distinct-is [] = refl
-distinct-is (x ∷ xs) = ap (λ b. not (list_any (λ y. bytes_eq y x) xs) && b) (distinct-is xs)
-
-distinct-by : {X Y : Type 0} (f : X → Y) (name : Y → List ℕ) (own : X → List ℕ) → ((x : X) → name (f x) ≡ own x) → (xs : List X) → are_apart (map own xs) ≡ true → are_distinct (map name (map f xs)) ≡ true
-distinct-by f name own same xs h = ap are_distinct (names-kept f name own same xs) ∙ (distinct-is (map own xs) ∙ h)
+distinct-by : {X Y : Type 0} (f : X → Y) (name : Y → List ℕ) (own : X → List ℕ) → ((x : X) → name (f x) ≡ own x) → (xs : List X) → are_distinct (map own xs) ≡ true → are_distinct (map name (map f xs)) ≡ true
+distinct-by f name own same xs h = ap are_distinct (names-kept f name own same xs) ∙ h
 
 same-text : (x : List ℕ) → bytes_eq x x ≡ true
 same-text x = (bytes_eq-Decides x x).1 refl
@@ -65,9 +60,9 @@ groups-are : (groups : List Group) → list_all (λ g. is_name g.name) groups �
 groups-are [] h = refl
 groups-are (g ∷ groups) h = let p = both (is_name g.name) _ h in bothly _ _ p.0 (groups-are groups p.1)
 
-apart-are : (c : Content) → are_named_apart c ≡ true → (are_apart (map (λ p. p.name) c.partitions) ≡ true) × (are_apart (map (λ g. g.name) c.groups) ≡ true)
+apart-are : (c : Content) → are_named_apart c ≡ true → (are_distinct (map (λ p. p.name) c.partitions) ≡ true) × (are_distinct (map (λ g. g.name) c.groups) ≡ true)
 unfolding are_named_apart
-apart-are c h = both (are_apart (map (λ p. p.name) c.partitions)) (are_apart (map (λ g. g.name) c.groups)) h
+apart-are c h = both (are_distinct (map (λ p. p.name) c.partitions)) (are_distinct (map (λ g. g.name) c.groups)) h
 
 known-are : (c : Content) → are_known c ≡ true → list_all (λ p. are_attributes c.minor p.attributes) c.partitions ≡ true
 unfolding are_known
