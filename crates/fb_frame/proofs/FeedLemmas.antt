@@ -2,7 +2,7 @@
 use Rattle.std.proofs.Common.{◌≡◌, ◌≢◌, ℕ, zero, suc, true, ◌+◌, ◌-◌, ◌*◌, ◌^◌, ◌<◌, ◌≤◌, List, [], ◌∷◌, ◌++◌, length, take, drop, map, Option, Some, None, refl, sym, ap, ◌∙◌, subst, arith, length-append, append_assoc, append-nil, length-take, length-drop}
 use Rattle.std.specs.Prelude.{flat_map}
 use Rattle.std.specs.Int.{w64, from_be_bytes}
-use Rattle.std.proofs.lemmas.Nat.{be_bytes_8, from_be_bytes-to_be_bytes_8}
+use Rattle.std.proofs.lemmas.Nat.{from_be_bytes-to_be_bytes_8}
 use Rattle.std.proofs.lemmas.Bool.Decides.{nat_tests}
 use Rattle.std.proofs.lemmas.List.{take_all, take-take, map-append}
 use Rattle.std.proofs.lemmas.List.Elements.{All-append, All-cons, All-nil}
@@ -27,10 +27,10 @@ reads-more bytes front piece told small r l = record {
 }
 
 -- a head is complete
-reads-head : (bytes front x : List ℕ) (len : ℕ) (told : Gathered) → AreBytes x → Reads bytes told (Head front) → length front + length x ≡ 8 →
-    len ≡ from_be_bytes w64 (front ++ x) → len < 2 ^ 64 → Reads (bytes ++ x) (noted (Length len) x told) (Left len)
-reads-head bytes front x len told small r l v s =
-    let e : head len ≡ front ++ x = be_bytes_8 (front ++ x) len (length-append front x ∙ l) (bytes-append front x r.stands.2 small) v in
+reads-head : (bytes front x : List ℕ) (len : ℕ) (told : Gathered) → Reads bytes told (Head front) →
+    front ++ x ≡ head len → len < 2 ^ 64 → Reads (bytes ++ x) (noted (Length len) x told) (Left len)
+reads-head bytes front x len told r v s =
+    let e : head len ≡ front ++ x = sym v in
     let none : told.part ≡ [] = r.stands.1 in
     let k : len ≡ length told.part + len = omega (arith, ap length none) in
     record {
@@ -77,8 +77,7 @@ fed bytes piece n More (Head front) next told small r f =
     let e : take n piece ≡ piece = take_all n piece (omega (arith, f.0)) in
     rw (e, f.2) (reads-more bytes front piece told small r (omega (arith, f.0, f.1)))
 fed bytes piece n (Length len) (Head front) next told small r f =
-    let t : length (take n piece) ≡ n = omega (arith, f.0, length-take n piece) in
-    rw f.5 (reads-head bytes front (take n piece) len told (bytes-take n piece small) r (omega (arith, t, f.1)) f.2 f.3)
+    rw f.5 (reads-head bytes front (take n piece) len told r f.2 f.3)
 fed bytes piece n Bytes (Head front) next told small r f = absurd f
 fed bytes piece n End (Head front) next told small r f = absurd f
 fed bytes piece n More (Left count) next told small r f = rw (f.1, f.3, append-nil) r
@@ -90,7 +89,7 @@ fed bytes piece n Bytes (Left count) next told small r f =
 fed bytes piece n End (Left count) next told small r f =
     rw (f.1, f.2, append-nil) (reads-end bytes [] told (subst (λ t. Reads bytes told (Left t)) f.0 r))
 
--- the same of what a listener tells
+-- one feed, by what a listener tells
 told-fed : (bytes piece : List ℕ) (n : ℕ) (event : Event) (stage next : Stage) (a b : Option Gathered) → AreBytes piece → ReadsTold bytes a stage →
     Feeds stage piece n event next → Notes event (take n piece) a b → ReadsTold (bytes ++ take n piece) b next
 told-fed bytes piece n event stage next (Some told) (Some now) small r f k = rw k (fed bytes piece n event stage next told small r f)

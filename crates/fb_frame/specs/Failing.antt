@@ -22,8 +22,8 @@ abbrev pub has_room : Option ℕ → ℕ → Bool
 has_room (Some room) n = nat_le n room
 has_room None n = true
 
--- The next call, which writes n bytes (0 for one that writes none), fails: by its number, or since they have no
--- room.
+-- The next call, which writes n bytes (0 for one that writes none), fails: by its number, or since the bytes
+-- have no room.
 unfoldable pub fails_next : Failing → ℕ → Bool
 fails_next f n = list_any (λ k. k == next_number f.calls) f.fails || not (has_room f.room n)
 

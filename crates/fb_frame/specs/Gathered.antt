@@ -52,7 +52,7 @@ pub record Reads (bytes : List ℕ) (told : Gathered) (stage : Stage) : Type 0 w
   pub fits : All HasFrame told.whole
   pub stands : IsStage stage told.part
 
--- the same of what a listener tells
+-- the bytes are read so by a listener, where it tells
 abbrev pub ReadsTold : List ℕ → Option Gathered → Stage → Type 0
 ReadsTold bytes (Some told) stage = Reads bytes told stage
 ReadsTold bytes None stage = Unit {0}
@@ -61,5 +61,6 @@ ReadsTold bytes None stage = Unit {0}
 -- remains is what the deframer stands in.
 abbrev pub CutsTold : List ℕ → Option Gathered → Stage → Type 0
 CutsTold bytes (Some told) stage =
-    Cut bytes told.whole (half stage told.part) × (told.lengths ≡ map (length {A = ℕ}) told.whole ++ half_length stage told.part)
+    Cut bytes told.whole (half stage told.part)
+    × (told.lengths ≡ map (length {A = ℕ}) told.whole ++ half_length stage told.part)
 CutsTold bytes None stage = Unit {0}

@@ -7,7 +7,7 @@ pub record MemoryText : Type 0 where
   pub room : ℕ
   pub faults : ℕ
 
--- the bytes have room behind what was put
+-- the bytes have room after what was put
 abbrev pub has_room : MemoryText → List ℕ → Bool
 has_room sink bytes = nat_le (length sink.put + length bytes) sink.room
 

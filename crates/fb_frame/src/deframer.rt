@@ -1,6 +1,7 @@
 ghost use Rattle.std.specs.Prelude.{◌≡◌, ◌≤◌, [], length};
 ghost use Rattle.fb_frame.specs.Stages.{Feeds, Head};
 
+use crate::framing::head_length;
 use std::marker::Model;
 
 /// What a deframer tells of the bytes that it took.
@@ -64,7 +65,7 @@ impl Deframer {
             if self.have < 8 {
                 return (taken, Event::More);
             }
-            self.left = u64::from_be_bytes(self.head);
+            self.left = head_length(&self.head);
             return (taken, Event::Length(self.left));
         }
         if self.left == 0 {

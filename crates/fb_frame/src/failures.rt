@@ -59,7 +59,7 @@ impl Failures {
         self.faults
     }
 
-    /// Counts one more call, which writes so many bytes, 0 where it writes none.
+    /// Counts one more call, which writes this many bytes (0 for one that writes none).
     #[tactic(auto, unfolding(crate::specs::Failing::fails_next))]
     pub fn pass(&mut self, bytes: u64) -> Result<(), Failed>
         ensures fails { is_err result ≡ fails_next self.old bytes }

@@ -14,7 +14,7 @@ pub struct BadHandshake;
 pub fn handshake(version: u8) -> [u8; 4]
     requires low { 1 ≤ version }
     requires high { version ≤ 99 }
-    ensures { result ≡ handshake version }
+    ensures spelled { result ≡ handshake version }
 {
     [b'F', b'B', b'0' + version / 10, b'0' + version % 10]
 }

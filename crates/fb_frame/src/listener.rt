@@ -19,7 +19,8 @@ pub trait Listener {
 /// From the start of a stream, the listener has then heard the payloads and the lengths of the frames
 /// that the joined pieces are cut into, however they were cut into pieces.
 pub fn feed_all<L: Listener>(deframer: &mut Deframer, pieces: &[&[u8]], listener: &mut L)
-    ensures cut { deframer.old ≡ Head [] → L.told listener.old ≡ Some nothing → CutsTold (flat_map (λ p. p.now) pieces.now) (L.told listener.new) deframer.new }
+    ensures cut { deframer.old ≡ Head [] → L.told listener.old ≡ Some nothing
+        → CutsTold (flat_map (λ p. p.now) pieces.now) (L.told listener.new) deframer.new }
     ensures reads { (bytes : List ℕ) → ReadsTold bytes (L.told listener.old) deframer.old
         → ReadsTold (bytes ++ flat_map (λ p. p.now) pieces.now) (L.told listener.new) deframer.new }
 {

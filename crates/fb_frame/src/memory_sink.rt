@@ -33,7 +33,7 @@ impl MemorySink {
     pub fn new(alloc: Global, room: usize) -> Result<MemorySink, Memory>
         ensures { IfOk result (λ s. s ≡ record { put = []; room = room; faults = 0 }) }
     {
-        let bytes = Vec::with_capacity(alloc, room).map_err(|_| Memory)?;
+        let bytes = Vec::with_capacity(alloc, room)?;
         Ok(MemorySink {
             bytes,
             limit: room,

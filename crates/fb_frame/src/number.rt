@@ -66,7 +66,8 @@ fn is_digit(b: u8) -> bool
 
 /// What the digits are worth, None where that passes 64 bits.
 fn digits_worth(bytes: &[u8]) -> Option<u64>
-    ensures { result ≡ (if nat_lt (digits_worth bytes.now) (2 ^ 64) then Some (digits_worth bytes.now) else None) }
+    ensures { result ≡
+        (if nat_lt (digits_worth bytes.now) (2 ^ 64) then Some (digits_worth bytes.now) else None) }
 {
     let mut n = 0;
     for b in bytes {

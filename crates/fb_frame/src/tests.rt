@@ -2,13 +2,17 @@ ghost use Rattle.std.specs.Prelude.{◌≡◌, ◌++◌, ◌∷◌, [], Some, No
 ghost use Rattle.fb_frame.specs.Gathered.{Gathered};
 
 use crate::deframer::{Deframer, Event};
-use crate::framing::frame_head;
+use crate::digest::digest;
+use crate::failures::Failures;
+use crate::fields::{u16_at, u32_at, u64_at};
+use crate::framing::{frame_head, head_length};
 use crate::greeting::{handshake, read_handshake};
 use crate::items::Items;
 use crate::listener::{Listener, feed_all};
 use crate::memory_sink::MemorySink;
 use crate::name::Name;
 use crate::number::{read_dec, read_hex8, write_hex8};
+use crate::shown::add_shown;
 use crate::sink::Sink;
 use crate::slot::Slot;
 use crate::word::Word;
@@ -138,6 +142,7 @@ fn writes_until_a_fault(rt: HostRuntime) -> Result<(), Fail> {
     assert!(rt; file.put(b"one\n").is_ok());
     assert!(rt; file.put(b"two\n").is_ok());
     assert_eq!(rt; fs::read_to_string(&rt, "lines")?.as_str(), "one\ntwo\n");
+    fs::remove_file(&rt, "lines")?;
     Ok(())
 }
 
@@ -152,7 +157,8 @@ struct Gathering {
 }
 
 impl Listener for Gathering {
-    ghost told = { λ s. if s.telling then Some (record { lengths = s.lengths; whole = s.whole; part = s.part }) else None };
+    ghost told = { λ s. if s.telling
+        then Some (record { lengths = s.lengths; whole = s.whole; part = s.part }) else None };
 
     fn note(&mut self, event: Event, taken: &[u8]) {
         let noted = match event {
@@ -187,7 +193,8 @@ fn end_part(
     Ok(())
 }
 
-/// Frames of `OKAY0.4`, of nothing and of `a`, and a head of 5 with one byte, cut after each byte or not at all.
+/// Frames of `OKAY0.4`, of nothing and of `a`, and a head of 5 with one byte, cut after each byte, after each
+/// third or eighth, or not at all.
 #[test]
 fn hears_frames_in_any_pieces(rt: HostRuntime) -> Result<(), Fail> {
     let stream = b"\0\0\0\0\0\0\0\x07OKAY0.4\0\0\0\0\0\0\0\0\0\0\0\0\0\0\0\x01a\0\0\0\0\0\0\0\x05x";
@@ -215,5 +222,52 @@ fn hears_frames_in_any_pieces(rt: HostRuntime) -> Result<(), Fail> {
         assert!(rt; a.as_slice() == b"a".as_slice());
     }
     assert!(rt; frame_head(7).as_slice() == b"\0\0\0\0\0\0\0\x07".as_slice());
+    assert_eq!(rt; head_length(b"\0\0\0\0\0\x01\0\x02"), 65_538);
+    Ok(())
+}
+
+/// The digest of `abc` in FIPS 180-4's examples.
+const ABC: [u8; 32] = [
+    0xba, 0x78, 0x16, 0xbf, 0x8f, 0x01, 0xcf, 0xea, 0x41, 0x41, 0x40, 0xde, 0x5d, 0xae, 0x22, 0x23,
+    0xb0, 0x03, 0x61, 0xa3, 0x96, 0x17, 0x7a, 0x9c, 0xb4, 0x10, 0xff, 0x61, 0xf2, 0x00, 0x15, 0xad,
+];
+
+#[test]
+fn digests_the_standards_example(rt: HostRuntime) {
+    assert_eq!(rt; digest(b"abc").as_slice(), ABC.as_slice());
+}
+
+#[test]
+fn shows_texts_and_reads_fields(rt: HostRuntime) -> Result<(), Fail> {
+    let mut line = Vec::new(rt.alloc());
+    line.extend_from_slice(b"info: ")?;
+    add_shown(&mut line, b"a ~\x7f\n\xff")?;
+    assert!(rt; line.as_slice() == b"info: a ~???".as_slice());
+    let field = b"\xff\x01\x02\x03\x04\x05\x06\x07\x08";
+    assert_eq!(rt; u16_at(field, 1), 0x0201);
+    assert_eq!(rt; u32_at(field, 1), 0x0403_0201);
+    assert_eq!(rt; u64_at(field, 1), 0x0807_0605_0403_0201);
+    Ok(())
+}
+
+#[test]
+fn counts_calls_that_fail(rt: HostRuntime) -> Result<(), Fail> {
+    let mut numbered = Failures::new(vec![in rt.alloc(); 2, 4]?);
+    for (bytes, passes) in [(0, true), (9, false), (9, true), (0, false), (0, true)] {
+        assert_eq!(rt; numbered.pass(bytes).is_ok(), passes);
+    }
+    assert_eq!(rt; numbered.faults(), 2);
+    let mut roomy = Failures::with_room(vec![in rt.alloc(); 1]?, 8);
+    for (bytes, passes) in [
+        (8, false),
+        (5, true),
+        (4, false),
+        (0, true),
+        (3, true),
+        (1, false),
+    ] {
+        assert_eq!(rt; roomy.pass(bytes).is_ok(), passes);
+    }
+    assert_eq!(rt; roomy.faults(), 3);
     Ok(())
 }

@@ -83,7 +83,9 @@ fn read_logical(bytes: &[u8]) -> Option<Command<'_>>
 }
 
 fn read_get_var(bytes: &[u8]) -> Option<Command<'_>>
-    ensures { option_map command_value result ≡ option_and_then (λ text. only_if (nat_le (length text) 4089) (GetVar text)) (behind_word (codes "getvar:") bytes.now) }
+    ensures { option_map command_value result ≡
+        option_and_then (λ text. only_if (nat_le (length text) 4089) (GetVar text))
+        (behind_word (codes "getvar:") bytes.now) }
 {
     let name = behind_word(b"getvar:", bytes)?;
     if name.len() <= 4089 {
@@ -94,28 +96,36 @@ fn read_get_var(bytes: &[u8]) -> Option<Command<'_>>
 }
 
 fn read_download(bytes: &[u8]) -> Option<Command<'_>>
-    ensures { option_map command_value result ≡ option_and_then (λ text. option_map Download (read_hex8 text)) (behind_word (codes "download:") bytes.now) }
+    ensures { option_map command_value result ≡
+        option_and_then (λ text. option_map Download (read_hex8 text))
+        (behind_word (codes "download:") bytes.now) }
 {
     let count = read_hex8(behind_word(b"download:", bytes)?)?;
     Some(Command::Download(count))
 }
 
 fn read_flash(bytes: &[u8]) -> Option<Command<'_>>
-    ensures { option_map command_value result ≡ option_and_then (named Flash) (behind_word (codes "flash:") bytes.now) }
+    ensures { option_map command_value result ≡
+        option_and_then (named Flash)
+        (behind_word (codes "flash:") bytes.now) }
 {
     let name = Name::read(behind_word(b"flash:", bytes)?)?;
     Some(Command::Flash(name))
 }
 
 fn read_erase(bytes: &[u8]) -> Option<Command<'_>>
-    ensures { option_map command_value result ≡ option_and_then (named Erase) (behind_word (codes "erase:") bytes.now) }
+    ensures { option_map command_value result ≡
+        option_and_then (named Erase)
+        (behind_word (codes "erase:") bytes.now) }
 {
     let name = Name::read(behind_word(b"erase:", bytes)?)?;
     Some(Command::Erase(name))
 }
 
 fn read_set_active(bytes: &[u8]) -> Option<Command<'_>>
-    ensures { option_map command_value result ≡ option_and_then slotted (behind_word (codes "set_active:") bytes.now) }
+    ensures { option_map command_value result ≡
+        option_and_then slotted
+        (behind_word (codes "set_active:") bytes.now) }
 {
     match behind_word(b"set_active:", bytes)? {
         [b'a'] => Some(Command::SetActive(Slot::A)),
@@ -125,7 +135,9 @@ fn read_set_active(bytes: &[u8]) -> Option<Command<'_>>
 }
 
 fn read_update_super(bytes: &[u8]) -> Option<Command<'_>>
-    ensures { option_map command_value result ≡ option_and_then super_named (behind_word (codes "update-super:") bytes.now) }
+    ensures { option_map command_value result ≡
+        option_and_then super_named
+        (behind_word (codes "update-super:") bytes.now) }
 {
     let text = behind_word(b"update-super:", bytes)?;
     if let Some(name) = Name::read(text) {
@@ -141,21 +153,27 @@ fn read_update_super(bytes: &[u8]) -> Option<Command<'_>>
 }
 
 fn read_create(bytes: &[u8]) -> Option<Command<'_>>
-    ensures { option_map command_value result ≡ option_and_then (sized Create) (behind_word (codes "create-logical-partition:") bytes.now) }
+    ensures { option_map command_value result ≡
+        option_and_then (sized Create)
+        (behind_word (codes "create-logical-partition:") bytes.now) }
 {
     let (name, size) = read_sized(behind_word(b"create-logical-partition:", bytes)?)?;
     Some(Command::Create(name, size))
 }
 
 fn read_delete(bytes: &[u8]) -> Option<Command<'_>>
-    ensures { option_map command_value result ≡ option_and_then (named Delete) (behind_word (codes "delete-logical-partition:") bytes.now) }
+    ensures { option_map command_value result ≡
+        option_and_then (named Delete)
+        (behind_word (codes "delete-logical-partition:") bytes.now) }
 {
     let name = Name::read(behind_word(b"delete-logical-partition:", bytes)?)?;
     Some(Command::Delete(name))
 }
 
 fn read_resize(bytes: &[u8]) -> Option<Command<'_>>
-    ensures { option_map command_value result ≡ option_and_then (sized Resize) (behind_word (codes "resize-logical-partition:") bytes.now) }
+    ensures { option_map command_value result ≡
+        option_and_then (sized Resize)
+        (behind_word (codes "resize-logical-partition:") bytes.now) }
 {
     let (name, size) = read_sized(behind_word(b"resize-logical-partition:", bytes)?)?;
     Some(Command::Resize(name, size))
@@ -179,7 +197,7 @@ pub(crate) fn behind_word<'a>(word: &[u8], text: &'a [u8]) -> Option<&'a [u8]>
     text.strip_prefix(word)
 }
 
-/// What stands before the first colon and behind it, where there is one.
+/// What stands before the first colon and after it, where there is one.
 #[tactic(auto, using(crate::proofs::TextLemmas::colons))]
 fn at_colon(text: &[u8]) -> Option<(&[u8], &[u8])>
     ensures { option_map (λ p. (p.0.now, p.1.now)) result ≡ at_colon text.now }
