@@ -33,7 +33,7 @@ pub part-none : (at : ℕ) (text : List ℕ) → None ≡ position (λ b. b == a
 unfolding parts
 part-none at text e = cut-none (λ b. b == at) text e
 
-words-blank : (b : ℕ) (rest : List ℕ) → is_blank b ≡ true → words (b ∷ rest) ≡ words rest
+pub words-blank : (b : ℕ) (rest : List ℕ) → is_blank b ≡ true → words (b ∷ rest) ≡ words rest
 unfolding words
 words-blank b rest h = ap (filter (λ word. nat_lt 0 (length word))) (slice_split-cons_yes is_blank b rest h)
 
@@ -53,7 +53,7 @@ words-front : (text : List ℕ) → words (drop (prefix_len is_blank text) text)
 words-front [] = refl
 words-front (b ∷ rest) = let more = words-front rest in elim (cases_Bool (is_blank b)) [ inl h ↦ front-yes b rest more h | inr h ↦ front-no b rest h ]
 
-kept : (word : List ℕ) (more : List (List ℕ)) → 0 < length word → filter (λ w. nat_lt 0 (length w)) (word ∷ more) ≡ word ∷ filter (λ w. nat_lt 0 (length w)) more
+pub kept : (word : List ℕ) (more : List (List ℕ)) → 0 < length word → filter (λ w. nat_lt 0 (length w)) (word ∷ more) ≡ word ∷ filter (λ w. nat_lt 0 (length w)) more
 kept word more h = grind (arith, nat_tests)
 
 words-some : (text : List ℕ) (i : ℕ) → Some i ≡ position is_blank text → 0 < i → words text ≡ take i text ∷ words (drop (i + 1) text)

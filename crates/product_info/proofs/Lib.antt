@@ -1,4 +1,9 @@
 pub mod BlankLemmas
+pub mod WordLemmas
+pub mod FormLemmas
+pub mod TrimLemmas
+pub mod ListLemmas
+pub mod LineLemmas
 pub mod ValueLemmas
 pub mod ReadingLemmas
 pub mod TaskLemmas

@@ -1,3 +1,5 @@
+pub mod Grammar
+pub mod Laws
 pub mod Blanks
 pub mod Reading
 pub mod RequirementText

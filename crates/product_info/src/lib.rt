@@ -2,6 +2,7 @@
 #![tactic(auto)]
 
 ghost use Rattle.product_info.specs.Rows.{Rows};
+ghost use Rattle.product_info.specs.Laws.{RequirementsRead, RequirementsSpelled, TasksRead, TasksSpelled};
 
 mod blanks;
 pub mod info;
@@ -17,6 +18,14 @@ pub mod tasks;
 /// Worked examples of the grammars.
 pub fn rows()
     ensures { Rows }
+{}
+
+/// Which lines are read as which requirement or task.
+pub fn laws()
+    ensures requirements_read { RequirementsRead }
+    ensures requirements_spelled { RequirementsSpelled }
+    ensures tasks_read { TasksRead }
+    ensures tasks_spelled { TasksSpelled }
 {}
 
 #[cfg(test)]

@@ -36,6 +36,7 @@ pub(crate) fn is_skipped(text: &[u8]) -> bool
 pub(crate) fn add<T: Drop>(items: &mut Items<T>, line: u32, item: T) -> Result<(), InfoError>
     ensures added { OnOk result (items.new ≡ items.old ++ item ∷ []) }
     ensures room { OnOk result (length items.old < 256) }
+    ensures most { OnOk result (length items.new ≤ 256) }
     ensures full { (number : _) (kind : _) → IsErrOf result (InfoError.Bad number kind) → 256 ≤ length items.old }
     ensures line { (number : _) (kind : _) → IsErrOf result (InfoError.Bad number kind) → number ≡ line }
     ensures kind { (number : _) (kind : _) → IsErrOf result (InfoError.Bad number kind) → kind ≡ InfoKind.TooMany }

@@ -18,6 +18,7 @@ fn read_line(
     list: &mut Requirements,
 ) -> Result<(), InfoError>
     ensures added { OnOk result (Added (line_says InfoKind.BadLine (requirement_of number) line.now) list.old list.new) }
+    ensures most { length list.old ≤ 256 → OnOk result (length list.new ≤ 256) }
     ensures line { (n : _) (kind : _) → IsErrOf result (InfoError.Bad n kind) → n ≡ number }
     ensures bad { (n : _) (kind : _) → IsErrOf result (InfoError.Bad n kind) → IsBad (line_says InfoKind.BadLine (requirement_of number) line.now) list.old kind }
 {
@@ -41,8 +42,9 @@ fn read_line(
 /// end. Blanks at its ends are dropped. Empty lines and those that begin with `#` are skipped.
 #[tactic(auto, using(crate::proofs::ReadingLemmas::lined), unfolding(crate::specs::RequirementText::requirements))]
 pub fn read_requirements(alloc: Global, text: &[u8]) -> Result<Requirements, InfoError>
-    requires { length text.now ≤ 65536 }
+    requires short { length text.now ≤ 65536 }
     ensures list { IfOk result (λ list. requirements text.now ≡ Lists list) }
+    ensures most { IfOk result (λ list. length list ≤ 256) }
     ensures bad { (line : _) (kind : _) → IsErrOf result (InfoError.Bad line kind) → requirements text.now ≡ Fails line kind }
 {
     let mut list = Requirements::new(alloc);

@@ -35,7 +35,7 @@ fn read_first(number: u32, line: &[u8]) -> Result<bool, InfoError>
 /// The number of the line behind the version's, and the text from there on.
 #[tactic(auto, using(crate::proofs::TaskLemmas::firsts), unfolding(crate::specs::TaskText::tasks))]
 fn skip_version(text: &[u8]) -> Result<(u32, Option<&[u8]>), InfoError>
-    requires { length text.now ≤ 65536 }
+    requires short { length text.now ≤ 65536 }
     ensures rest { IfOk result (λ p. tasks text.now ≡ read_lines InfoKind.BadLine task_of p.0 256 (option_map_or (λ left. parts 10 left.now) p.1 [])) }
     ensures bounded { IfOk result (λ p. p.0 + option_map_or (λ left. length left.now + 1) p.1 0 ≤ 65538) }
     ensures bad { (line : _) (kind : _) → IsErrOf result (InfoError.Bad line kind) → tasks text.now ≡ Fails line kind }
@@ -58,6 +58,7 @@ fn skip_version(text: &[u8]) -> Result<(u32, Option<&[u8]>), InfoError>
 #[tactic(auto, unfolding(crate::specs::TaskText::task_of))]
 fn read_line(number: u32, line: &[u8], list: &mut Tasks) -> Result<(), InfoError>
     ensures added { OnOk result (Added (line_says InfoKind.BadLine (task_of number) line.now) list.old list.new) }
+    ensures most { length list.old ≤ 256 → OnOk result (length list.new ≤ 256) }
     ensures line { (n : _) (kind : _) → IsErrOf result (InfoError.Bad n kind) → n ≡ number }
     ensures bad { (n : _) (kind : _) → IsErrOf result (InfoError.Bad n kind) → IsBad (line_says InfoKind.BadLine (task_of number) line.now) list.old kind }
 {
@@ -86,8 +87,9 @@ fn read_line(number: u32, line: &[u8], list: &mut Tasks) -> Result<(), InfoError
 /// end. Blanks at its ends are dropped. Empty lines and those that begin with `#` are skipped.
 #[tactic(auto, using(crate::proofs::ReadingLemmas::lined))]
 pub fn read_tasks(alloc: Global, text: &[u8]) -> Result<Tasks, InfoError>
-    requires { length text.now ≤ 65536 }
+    requires short { length text.now ≤ 65536 }
     ensures list { IfOk result (λ list. tasks text.now ≡ Lists list) }
+    ensures most { IfOk result (λ list. length list ≤ 256) }
     ensures bad { (line : _) (kind : _) → IsErrOf result (InfoError.Bad line kind) → tasks text.now ≡ Fails line kind }
 {
     let (mut number, mut rest) = skip_version(text)?;

@@ -8,6 +8,7 @@ use Rattle.product_info.proofs.tasks.read_tasks.Given as goal
 
 abbrev pub invariant-loop-rest : goal.invariant-loop-rest
 invariant-loop-rest l = record {
+  most : length l.list ≤ 256;
   bounded : l.number + option_map_or (λ left. length left.now + 1) l.rest 0 ≤ 65538;
   read : tasks l.text ≡ behind l.list (read_lines BadLine task_of l.number (256 - length l.list) (option_map_or (λ left. parts 10 left.now) l.rest []));
 }
