@@ -1,6 +1,6 @@
 -- The forms of tasks, and the words of each.
-use Rattle.std.proofs.Common.{◌≡◌, ℕ, ◌+◌, ◌<◌, ◌≤◌, Bool, true, false, List, [], ◌∷◌, ◌++◌, length, refl, sym, ◌∙◌, ap, subst, arith, Some, None, Option, length-append, ◌⊎◌, inl, inr}
-use Rattle.std.specs.Prelude.{◌&&◌, not, ◌==◌, codes, bytes_eq, if◌then◌else◌, option_to_list, IfSome, slice_index, nat_le, IsTrue}
+use Rattle.std.proofs.Common.{◌≡◌, ℕ, ◌+◌, Bool, true, false, List, [], ◌∷◌, ◌++◌, length, refl, sym, ◌∙◌, ap, subst, arith, Some, None, Option, length-append, ◌⊎◌, inl, inr}
+use Rattle.std.specs.Prelude.{◌&&◌, not, ◌==◌, codes, bytes_eq, if◌then◌else◌, option_to_list, IfSome, nat_le, IsTrue}
 use Rattle.std.specs.List.{list_all}
 use Rattle.std.proofs.lemmas.Bool.Decides.{nat_tests}
 use Rattle.std.proofs.lemmas.Slice.Eq.{bytes_eq-Decides}
@@ -13,7 +13,7 @@ use Rattle.product_info.specs.declared.task.Task.{Task}
 use Rattle.product_info.specs.Blanks.{words}
 use Rattle.product_info.specs.Grammar.{Flags, Unflagged, Vbmeta, SlotOther, VbmetaSlotOther, SlotOtherVbmeta, flag_words, is_for_other, Form, Flashes, Reboots, Updates, Erases, IsPartName, IsFileWord, IsForm, target_words, form_words, file_for, form_action, wipe_words, AreWordsOf, IsTaskLine}
 use Rattle.product_info.specs.TaskText.{is_plain, part_of, file_of, image_file, flash, flash_named, flash_of, target_of, reboot, reboot_of, update_of, erase, erase_of, action_by, action_of, when, order_of, numbered, task_of}
-use Rattle.product_info.proofs.WordLemmas.{both, and-true, not-true, words-read, words-spelled}
+use Rattle.product_info.proofs.WordLemmas.{both, and-true, words-read, words-spelled}
 
 pub bytes-same : (xs ys : List ℕ) → bytes_eq xs ys ≡ true → xs ≡ ys
 bytes-same xs ys e = (bytes_eq-Decides xs ys).0 e
@@ -23,10 +23,6 @@ bytes-apart xs ys h = by (bytes_eq xs ys) refl where
   by : (b : Bool) → bytes_eq xs ys ≡ b → bytes_eq xs ys ≡ false
   by true e = absurd (h (bytes-same xs ys e))
   by false e = e
-
--- a word that doesn't begin with `-`
-Plain : List ℕ → Type 0
-Plain word = (rest : List ℕ) → word ≡ 45 ∷ rest → ⊥
 
 pub nat-same : (a b : ℕ) → (a == b) ≡ true → a ≡ b
 nat-same a b e = grind (arith, nat_tests)
@@ -256,10 +252,10 @@ spells flags ws rest action e h = record {
 flash-spelled : (ws : List (List ℕ)) (action : Action) → flash_of false false ws ≡ Some action → Spells (codes "flash" ∷ ws) action
 flash-spelled [] action e = absurd cc
 flash-spelled (word ∷ rest) action e = by (bytes_eq word (codes "--apply-vbmeta")) refl (bytes_eq word (codes "--slot-other")) refl e where
-  flagged : (x y : List (List ℕ)) → word ≡ codes "--apply-vbmeta" →
+  flagged : word ≡ codes "--apply-vbmeta" →
       Named rest false action ⊎ ((more : List (List ℕ)) × (rest ≡ codes "--slot-other" ∷ more) × Named more true action) → Spells (codes "flash" ∷ word ∷ rest) action
-  flagged x y f (inl h) = spells Vbmeta (word ∷ rest) rest action (ap (λ w. w ∷ rest) f) h
-  flagged x y f (inr h) = spells VbmetaSlotOther (word ∷ rest) h.0 action (ap (λ w. w ∷ rest) f ∙ ap (λ r. codes "--apply-vbmeta" ∷ r) h.1) h.2
+  flagged f (inl h) = spells Vbmeta (word ∷ rest) rest action (ap (λ w. w ∷ rest) f) h
+  flagged f (inr h) = spells VbmetaSlotOther (word ∷ rest) h.0 action (ap (λ w. w ∷ rest) f ∙ ap (λ r. codes "--apply-vbmeta" ∷ r) h.1) h.2
 
   othered : word ≡ codes "--slot-other" →
       Named rest true action ⊎ ((more : List (List ℕ)) × (rest ≡ codes "--apply-vbmeta" ∷ more) × Named more true action) → Spells (codes "flash" ∷ word ∷ rest) action
@@ -268,7 +264,7 @@ flash-spelled (word ∷ rest) action e = by (bytes_eq word (codes "--apply-vbmet
 
   by : (a : Bool) → bytes_eq word (codes "--apply-vbmeta") ≡ a → (b : Bool) → bytes_eq word (codes "--slot-other") ≡ b →
       (if a then flash_of true false rest else (if b then flash_of false true rest else flash_named false word rest)) ≡ Some action → Spells (codes "flash" ∷ word ∷ rest) action
-  by true f b g q = flagged [] [] (bytes-same word (codes "--apply-vbmeta") f) (vbmeta-spelled rest action q)
+  by true f b g q = flagged (bytes-same word (codes "--apply-vbmeta") f) (vbmeta-spelled rest action q)
   by false f true g q = othered (bytes-same word (codes "--slot-other") g) (other-spelled rest action q)
   by false f false g q = spells Unflagged (word ∷ rest) (word ∷ rest) action refl (named-spelled false word rest action q)
 

@@ -1,6 +1,6 @@
 -- The lines of requirements.
-use Rattle.std.proofs.Common.{◌≡◌, ℕ, Bool, true, false, List, [], ◌∷◌, ◌++◌, length, take, drop, refl, sym, ◌∙◌, ap, subst, arith, Some, None, Option, zero, suc}
-use Rattle.std.specs.Prelude.{◌&&◌, ◌||◌, not, ◌==◌, nat_eq, codes, bytes_eq, if◌then◌else◌, reverse, IsTrue, IsFalse}
+use Rattle.std.proofs.Common.{◌≡◌, ℕ, Bool, true, false, List, [], ◌∷◌, ◌++◌, take, drop, refl, sym, ◌∙◌, ap, subst, Some, None, Option, zero, suc}
+use Rattle.std.specs.Prelude.{◌&&◌, ◌||◌, not, ◌==◌, nat_eq, codes, bytes_eq, if◌then◌else◌, reverse}
 use Rattle.std.specs.List.{list_all, starts_with}
 use Rattle.std.specs.Cmp.Lexicographic.{same_text}
 use Rattle.fb_frame.specs.NameText.{is_name, is_name_byte, is_word, word_of}
@@ -8,11 +8,11 @@ use Rattle.product_info.specs.declared.requirement.ReqKind.{ReqKind}
 use Rattle.product_info.specs.declared.requirement.ReqKind.TheVariants.{Require, Reject, Exists}
 use Rattle.product_info.specs.declared.requirement.Requirement.{Requirement}
 use Rattle.product_info.specs.Blanks.{is_blank, trimmed, cut_at, cut_blank}
-use Rattle.product_info.specs.Grammar.{AreBlanks, IsFlush, IsPadded, IsVariable, AreListed, Opening, Unopened, Requires, Rejects, ForProduct, opened_for, is_rejecting, IsOpener, IsLonger, IsOpened, IsPair, IsWanted, IsRequirementLine}
+use Rattle.product_info.specs.Grammar.{IsPadded, IsVariable, Opening, Unopened, Requires, Rejects, ForProduct, opened_for, is_rejecting, IsOpener, IsLonger, IsOpened, IsPair, IsWanted, IsRequirementLine}
 use Rattle.product_info.specs.RequirementText.{is_variable_byte, variable_of, values_of, asked_name, listed, exists, named, sided, body_of, product_of, for_product, by_word, requirement_of}
-use Rattle.product_info.proofs.WordLemmas.{both, and-true, not-true}
+use Rattle.product_info.proofs.WordLemmas.{both}
 use Rattle.product_info.proofs.FormLemmas.{bytes-same, bytes-apart, nat-same}
-use Rattle.product_info.proofs.TrimLemmas.{all-append, all-imply, all-reverse, flush-all, trim-padded, trimmed-is, trimmed-padded, cut-read, Cut, cut-is}
+use Rattle.product_info.proofs.TrimLemmas.{all-append, all-imply, all-reverse, flush-all, trim-padded, trimmed-padded, cut-read, Cut, cut-is}
 use Rattle.product_info.proofs.ListLemmas.{blank-other, listed-read, listed-spelled, values-trimmed}
 
 abbrev is_equals : ℕ → Bool
@@ -114,10 +114,7 @@ wanted-read number product rejects name right r Exists e f g w =
     ∙ (ap (λ b. if b then Some (record { line = number; product = product; kind = Exists; name = r.name; values = [] }) else None) w.2
     ∙ ap Some (same-requirement r number product Exists r.name [] e f g refl w.3))))
 
--- the first word of a longer form
-prefix : List ℕ
-prefix = codes "require-for-product:"
-
+-- the first word of a longer form has no blank
 opener-unbroken : (word : List ℕ) (opening : Opening) → IsOpener word opening → list_all (λ b. not (is_blank b)) word ≡ true
 opener-unbroken word Unopened h = absurd h
 opener-unbroken word Requires h = subst (λ w. list_all (λ b. not (is_blank b)) w ≡ true) (sym h) refl
@@ -148,10 +145,7 @@ product-spelled word product e = by (starts_with nat_eq word (codes "require-for
       (sym (take-drop 20 word) ∙ (ap (λ t. t ++ drop 20 word) (sym front) ∙ ap (λ t. codes "require-for-product:" ++ t) v.0), v.1)
   by false f q = absurd cc
 
--- how the first word opens the line
-opened-body : ℕ → Opening → List ℕ → Option Requirement
-opened-body number opening body = body_of number (opened_for opening) (is_rejecting opening) body
-
+-- a line of a longer form is read by its opening
 longer-read : (number : ℕ) (line : List ℕ) (opening : Opening) (rest : List ℕ) → IsLonger line opening rest →
     requirement_of number line ≡ body_of number (opened_for opening) (is_rejecting opening) rest
 unfolding requirement_of
@@ -221,9 +215,6 @@ record Says (number : ℕ) (product : Option (List ℕ)) (rejects : Bool) (name 
 exists-says : (number : ℕ) (product : Option (List ℕ)) (name right : List ℕ) (r : Requirement) → name ≡ codes "partition-exists" →
     exists number product (trimmed right) ≡ Some r → Says number product false name right r
 exists-says number product name right r f e = by (is_name (trimmed right)) refl e where
-  made : Requirement
-  made = record { line = number; product = product; kind = Exists; name = trimmed right; values = [] }
-
   by : (b : Bool) → is_name (trimmed right) ≡ b → (if b then Some (record { line = number; product = product; kind = Exists; name = trimmed right; values = [] }) else None) ≡ Some r →
       Says number product false name right r
   by true g q =

@@ -1,6 +1,6 @@
 -- Blanks at the ends of a text, and the byte at which it is cut.
 use Rattle.std.proofs.Common.{◌≡◌, ℕ, ◌+◌, ◌-◌, Bool, true, false, List, [], ◌∷◌, ◌++◌, length, take, drop, refl, sym, ◌∙◌, ap, subst, arith, Some, None, Option, cond, suc, append_assoc, append-nil, length-append}
-use Rattle.std.specs.Prelude.{◌&&◌, not, nat_lt, position, reverse}
+use Rattle.std.specs.Prelude.{not, nat_lt, position, reverse}
 use Rattle.std.specs.List.{list_all, prefix_len, position_or_len}
 use Rattle.std.proofs.lemmas.List.{reverse-append, reverse-reverse, length-reverse, take-append-le, take_all}
 use Rattle.std.proofs.lemmas.Bool.Decides.{nat_tests}

@@ -1,8 +1,7 @@
 -- The grammars of both files' lines (AOSP product files), said of whole lines.
-use Rattle.std.specs.Prelude.{◌≡◌, ℕ, ◌<◌, ◌==◌, ◌&&◌, not, Bool, true, false, IsTrue, IsFalse, List, [], ◌∷◌, ◌++◌}
-use Rattle.std.specs.Prelude.{length, reverse, Option, Some, None, option_to_list, IfSome, codes, if◌then◌else◌}
+use Rattle.std.specs.Prelude.{◌≡◌, ℕ, ◌<◌, ◌==◌, not, Bool, true, false, IsTrue, IsFalse, List, [], ◌∷◌, ◌++◌}
+use Rattle.std.specs.Prelude.{length, reverse, Option, Some, None, option_to_list, IfSome, codes}
 use Rattle.std.specs.List.{list_all}
-use Rattle.std.specs.Str.{bytes_eq}
 use Rattle.fb_frame.specs.NameText.{is_name_byte, IsName, IsWord}
 use Rattle.fb_message.specs.declared.command.BootTarget.{BootTarget}
 use Rattle.fb_message.specs.declared.command.BootTarget.TheVariants.{System, Bootloader, Fastboot, Recovery}
