@@ -14,22 +14,23 @@ use Rattle.fb_message.proofs.Replies.{reply_again}
 use Rattle.fb_message.proofs.Read.{reply_read}
 use Rattle.fb_message.proofs.Words.{only-yes, only-inverse, parts}
 use Rattle.dev_model.specs.Validity.{IsValid}
-use Rattle.wire_model.specs.Peers.{Peer, Apart, Joined, OnLink}
+use Rattle.wire_told.specs.Peers.{Peer, Apart, Joined, OnLink}
 use Rattle.wire_model.specs.Says.{Loaded, Said, says, tells, tells_all}
 use Rattle.dev_model.specs.declared.device.Dev.{Dev}
 use Rattle.dev_model.specs.Variables.{value}
-use Rattle.wire_model.proofs.RepliedLemmas.{Idle-steady, Receiving-told, Done-but}
+use Rattle.wire_told.proofs.RepliedLemmas.{Idle-steady, Receiving-told, Done-but}
 use Rattle.wire_model.specs.Wire.{Wire}
 use Rattle.wire_model.specs.Halts.{Halts}
-use Rattle.wire_model.specs.Turns.{CommandTest}
-use Rattle.wire_model.specs.Told.{Passes, Idle, disk_fault}
-use Rattle.wire_model.specs.Replied.{IsFirstOf, IsDone, IsFailed, IsReplied, Replied, Done, IsData, is_steady}
-use Rattle.wire_model.specs.FirstPath.{is_first_path, PassesFirst}
-use Rattle.wire_model.proofs.Lifted.{of-of, of-on, on-on, with-on}
-use Rattle.wire_model.proofs.AnswerLemmas.{DidSo-did}
-use Rattle.wire_model.proofs.FirstLemmas.{Passes-first}
-use Rattle.wire_model.proofs.GreetLemmas.{Idle-less}
-use Rattle.wire_model.proofs.ValidReplies.{says_replies, AreShort-valid}
+use Rattle.wire_told.specs.Turns.{CommandTest}
+use Rattle.wire_told.specs.Told.{Passes, Idle, disk_fault}
+use Rattle.wire_told.specs.Replied.{IsFirstOf, IsDone, IsFailed, IsReplied, Replied, Done, IsData, is_steady}
+use Rattle.wire_told.specs.FirstPath.{is_first_path, PassesFirst}
+use Rattle.wire_told.proofs.Lifted.{of-of, of-on, on-on, with-on}
+use Rattle.wire_told.proofs.AnswerLemmas.{DidSo-did}
+use Rattle.wire_told.proofs.FirstLemmas.{Passes-first}
+use Rattle.wire_told.proofs.GreetLemmas.{Idle-less}
+use Rattle.wire_model.proofs.ValidReplies.{says_replies}
+use Rattle.wire_told.proofs.OwedLemmas.{AreShort-valid}
 use Rattle.fb_top.specs.Asking.{first_reply, IsAnswered, IsFaulted, Answered, ValidPeer, IsTaken, data_of, Behind, IsTold, Tells}
 
 -- what was written of a command is that command

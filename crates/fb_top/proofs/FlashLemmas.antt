@@ -21,13 +21,13 @@ use Rattle.dev_model.specs.Refusals.{flash_refusal, refusal_of}
 use Rattle.dev_model.specs.Steps.{can, apply}
 use Rattle.dev_model.specs.Validity.{IsValid}
 use Rattle.dev_model.proofs.Taken.{takes_unless_refused, flash_refuses_as_put}
-use Rattle.wire_model.specs.Peers.{Peer, Apart, Joined, OnLink}
-use Rattle.wire_model.specs.FirstPath.{is_raw}
+use Rattle.wire_told.specs.Peers.{Peer, Apart, Joined, OnLink}
+use Rattle.wire_told.specs.FirstPath.{is_raw}
 use Rattle.wire_model.specs.Says.{Loaded, Said, says, decides, leaves, loaded_image}
 use Rattle.wire_model.specs.Wire.{Wire}
-use Rattle.wire_model.specs.Told.{IsIdle, Idle, IsLoaded, LoadedBy, Answers, IsAnswering, HeardReply}
-use Rattle.wire_model.proofs.Lifted.{of-of, of-on, on-on, with-on, on-then}
-use Rattle.wire_model.proofs.AnswerLemmas.{frame-front}
+use Rattle.wire_told.specs.Told.{IsIdle, Idle, IsLoaded, LoadedBy, Answers, IsAnswering, HeardReply}
+use Rattle.wire_told.proofs.Lifted.{of-of, of-on, on-on, with-on, on-then}
+use Rattle.wire_told.proofs.AnswerLemmas.{frame-front}
 use Rattle.fb_top.specs.Asking.{IsAnswered, IsFaulted, Answered, ValidPeer, IsTaken, first_reply}
 use Rattle.fb_top.specs.Products.{IsRawImage, most_bytes}
 use Rattle.fb_top.specs.Flashing.{Serves, IsDownloaded, Downloaded, Takes, Refuses, OnDevice, put_step, Took, Refused}

@@ -18,9 +18,9 @@ use Rattle.dev_model.specs.Refusals.{refusal_of}
 use Rattle.dev_model.specs.Steps.{can, apply, run, is_boot, meets}
 use Rattle.dev_model.proofs.Taken.{takes_unless_refused}
 use Rattle.flash_plan.specs.Files.{Files, IsThere}
-use Rattle.wire_model.specs.Peers.{Peer, Apart, Joined, device_of}
-use Rattle.wire_model.specs.Places.{Place, ImageAt, Stand, Stands, Device, Nothing, AimsBy, Aims, IsBadBy}
-use Rattle.wire_model.specs.Told.{HungUp}
+use Rattle.wire_told.specs.Peers.{Peer, Apart, Joined, device_of}
+use Rattle.wire_told.specs.Places.{Place, ImageAt, Stand, Stands, Device, Nothing, AimsBy, Aims, IsBadBy}
+use Rattle.wire_told.specs.Told.{HungUp}
 use Rattle.fb_top.specs.declared.host.HostError.{HostError}
 use Rattle.fb_top.specs.declared.host.HostError.TheVariants as host
 use Rattle.fb_top.specs.declared.plan.PlanKind.{PlanKind}

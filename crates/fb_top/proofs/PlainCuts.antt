@@ -7,10 +7,10 @@ use Rattle.std.proofs.lemmas.List.{take-append-le, take_all, drop_all}
 use Rattle.fb_frame.specs.Framing.{announced, lacks_head, lacks_frame, first_payload, behind_frame}
 use Rattle.wire_model.specs.Wire as wire
 use Rattle.wire_model.specs.Wire.{Wire, Phase, Item, Greeting, Payload, first_frame, front, heard, joined, limited, after}
-use Rattle.wire_model.specs.Turns.{room, head_is_fine, heads_are_fine, length_is_fine, takes_empty, CommandTest, command_passes, commands_pass, IsTurn, IsSettled}
+use Rattle.wire_told.specs.Turns.{room, head_is_fine, heads_are_fine, length_is_fine, takes_empty, CommandTest, command_passes, commands_pass, IsTurn, IsSettled}
 use Rattle.wire_model.proofs.AtLimit.{part_up_to, item_up_to}
 use Rattle.wire_model.proofs.InParts.{heard-placed, whole-front}
-use Rattle.wire_model.proofs.Turned.{heads-at, commands-at}
+use Rattle.wire_told.proofs.Turned.{heads-at, commands-at}
 use Rattle.fb_top.specs.declared.plain_stage.Stage.{Stage}
 use Rattle.fb_top.specs.declared.plain_stage.Stage.TheVariants.{Shake, Command, Data}
 use Rattle.fb_top.specs.PlainStages.{phase_of, has_room}

@@ -11,12 +11,12 @@ use Rattle.dev_model.specs.declared.bad_image.BadImage.{BadImage}
 use Rattle.dev_model.specs.declared.device.Dev.{Dev}
 use Rattle.dev_model.specs.Validity.{IsValid}
 use Rattle.wire_model.specs.Halts.{Goes}
-use Rattle.wire_model.specs.Peers.{Apart, Joined, OfLink}
-use Rattle.wire_model.specs.Places as place
-use Rattle.wire_model.specs.Places.{Place, ImageAt, TcpAt, Stand, Device, Bad, Nothing, Aims, IsBad}
-use Rattle.wire_model.specs.Told.{MayConnect, Sent, GoesBy, IsLeft, LeftBy, Heard, HungUp, Connected}
+use Rattle.wire_told.specs.Peers.{Apart, Joined, OfLink}
+use Rattle.wire_told.specs.Places as place
+use Rattle.wire_told.specs.Places.{Place, ImageAt, TcpAt, Stand, Device, Bad, Nothing, Aims, IsBad}
+use Rattle.wire_told.specs.Told.{MayConnect, Sent, GoesBy, IsLeft, LeftBy, Heard, HungUp, Connected}
 use Rattle.wire_model.specs.Wire.{Wire, fresh, after}
-use Rattle.wire_model.proofs.TellLemmas.{Sent-to}
+use Rattle.wire_told.proofs.TellLemmas.{Sent-to}
 use Rattle.fb_top.specs.declared.plain_peer.PlainPeer.{PlainPeer}
 use Rattle.fb_top.specs.PlainDisks.{is_open_for}
 use Rattle.fb_top.specs.PlainPeers.{MayLead}

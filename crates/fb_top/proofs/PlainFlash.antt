@@ -19,7 +19,7 @@ use Rattle.dev_model.specs.Options.{◌>>=◌, needs, first_passed}
 use Rattle.dev_model.specs.Partitions.{is_target, is_userspace, with_mode, bytes_of}
 use Rattle.dev_model.specs.Refusals.{flash_refusal, is_too_large}
 use Rattle.dev_model.specs.Steps.{apply}
-use Rattle.wire_model.specs.FirstPath.{is_raw}
+use Rattle.wire_told.specs.FirstPath.{is_raw}
 use Rattle.wire_model.specs.Halts.{Halts, DiffersUnder, is_fail}
 use Rattle.wire_model.specs.Says.{Loaded, says, answers, decides, loaded_image}
 use Rattle.fb_top.specs.declared.plain_layout.PlainLayout.{PlainLayout}

@@ -10,8 +10,8 @@ use Rattle.dev_model.specs.declared.device.Mode.{Mode}
 use Rattle.dev_model.specs.declared.device.Mode.TheVariants.{System, Bootloader, Userspace, Recovery, Halted}
 use Rattle.dev_model.specs.Partitions.{with_mode, is_fastboot}
 use Rattle.fb_link.specs.declared.port.LinkFault.{LinkFault}
-use Rattle.wire_model.specs.Peers.{Apart, Joined, device_of}
-use Rattle.wire_model.specs.Places.{ImageAt, Device}
+use Rattle.wire_told.specs.Peers.{Apart, Joined, device_of}
+use Rattle.wire_told.specs.Places.{ImageAt, Device}
 use Rattle.wire_model.specs.Wire.{Wire}
 use Rattle.fb_top.specs.declared.plain_device.PlainDevice.{PlainDevice}
 use Rattle.fb_top.specs.declared.plain_layout.PlainLayout.{PlainLayout}

@@ -11,7 +11,7 @@ use Rattle.fb_top.specs.declared.plain_layout.PlainLayout.{PlainLayout}
 use Rattle.fb_top.specs.PlainLayout.{layout_of, layout_of_text, text_of, from_serial, from_slots, last_line, made, label_of, partition_of, partition_from, word_of, both, sized, size_of, is_size, field_of}
 use Rattle.fb_top.specs.PlainDevices.{plain_dev}
 use Rattle.dev_model.specs.declared.bad_image.BadImage.TheVariants.{ShortFile, BadLength, BadState}
-use Rattle.wire_model.specs.Places.{Device, Bad}
+use Rattle.wire_told.specs.Places.{Device, Bad}
 use Rattle.fb_top.specs.PlainState.{state_of}
 use Rattle.fb_top.specs.PlainStand.{IsLayout, opened, stand_by, stand_of}
 

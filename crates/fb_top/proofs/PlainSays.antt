@@ -18,7 +18,7 @@ use Rattle.dev_model.specs.declared.device.Dev.{Dev}
 use Rattle.dev_model.specs.Options.{first_passed}
 use Rattle.dev_model.specs.Partitions.{with_mode}
 use Rattle.dev_model.specs.Variables.{value}
-use Rattle.wire_model.specs.FirstPath.{is_first_question, is_some_name}
+use Rattle.wire_told.specs.FirstPath.{is_first_question, is_some_name}
 use Rattle.wire_model.specs.Says.{Loaded, says, answers, tells, tells_all, awaits, mode_of}
 use Rattle.wire_model.specs.Wire.{Wire, Command, Data, answered, received, with_replies}
 use Rattle.fb_top.specs.declared.plain_layout.PlainLayout.{PlainLayout}

@@ -12,7 +12,7 @@ use Rattle.wire_model.specs.Halts.{Halts, Goes, faulted}
 use Rattle.wire_model.specs.Says.{Loaded}
 use Rattle.wire_model.specs.Wire as wire
 use Rattle.wire_model.specs.Wire.{Wire, Item, Payload, front, joined, limited, after}
-use Rattle.wire_model.specs.Turns.{room, head_is_fine, CommandTest, command_passes, front_passes, IsTurn}
+use Rattle.wire_told.specs.Turns.{room, head_is_fine, CommandTest, command_passes, front_passes, IsTurn}
 use Rattle.wire_model.proofs.GoesItems.{fault_item}
 use Rattle.fb_top.specs.declared.plain_stage.Stage.{Stage}
 use Rattle.fb_top.specs.declared.plain_stage.Stage.TheVariants.{Shake, Command, Data}

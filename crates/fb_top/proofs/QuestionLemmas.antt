@@ -5,7 +5,7 @@ use Rattle.std.specs.Option.{option_or}
 use Rattle.std.specs.List.{list_all}
 use Rattle.std.proofs.lemmas.Bool.Decides.{nat_tests}
 use Rattle.fb_message.proofs.Words.{parts}
-use Rattle.wire_model.specs.Replied.{is_steady}
+use Rattle.wire_told.specs.Replied.{is_steady}
 use Rattle.std.proofs.lemmas.Option.{none-some}
 use Rattle.fb_frame.specs.Numbers.{size_text}
 use Rattle.fb_frame.specs.NameText.{is_name_byte, IsName}
@@ -14,10 +14,10 @@ use Rattle.dev_model.specs.declared.device.Dev.{Dev}
 use Rattle.dev_model.specs.Partitions.{has_slots, is_physical, is_logical}
 use Rattle.dev_model.specs.Validity.{IsValid}
 use Rattle.dev_model.specs.Variables.{value}
-use Rattle.wire_model.specs.Peers.{Peer, OnLink}
-use Rattle.wire_model.specs.Told.{IsIdle, Idle}
-use Rattle.wire_model.specs.FirstPath.{is_first_question}
-use Rattle.wire_model.proofs.Lifted.{of-of, with-on}
+use Rattle.wire_told.specs.Peers.{Peer, OnLink}
+use Rattle.wire_told.specs.Told.{IsIdle, Idle}
+use Rattle.wire_told.specs.FirstPath.{is_first_question}
+use Rattle.wire_told.proofs.Lifted.{of-of, with-on}
 use Rattle.fb_top.specs.Asking.{ValidPeer, IsTaken, IsTold, Tells}
 use Rattle.fb_top.specs.Plans.{kind_of}
 use Rattle.fb_top.specs.Questions.{slots_read, kind_read, kind_question, Learns, LearnsSlots, LearnsKind, LearnsMax}

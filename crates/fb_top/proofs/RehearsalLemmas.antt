@@ -13,8 +13,8 @@ use Rattle.dev_model.specs.Options.{◌>>=◌, needs}
 use Rattle.dev_model.specs.Partitions.{has_slots, with_mode}
 use Rattle.dev_model.specs.Steps.{can, apply, run}
 use Rattle.flash_plan.specs.Files.{Files}
-use Rattle.wire_model.specs.Peers.{Peer, device_of}
-use Rattle.wire_model.specs.Places.{Place, ImageAt, Stand, Stands, Device, Bad, Nothing}
+use Rattle.wire_told.specs.Peers.{Peer, device_of}
+use Rattle.wire_told.specs.Places.{Place, ImageAt, Stand, Stands, Device, Bad, Nothing}
 use Rattle.fb_top.specs.declared.plan.PlanKind.TheVariants.{NotBuilt}
 use Rattle.fb_top.specs.HostWords.{FlashAllText}
 use Rattle.fb_top.specs.Asking.{IsCut}

@@ -13,10 +13,10 @@ use Rattle.dev_model.specs.Partitions.{is_fastboot, has_slots}
 use Rattle.dev_model.specs.Steps.{can, apply, run}
 use Rattle.dev_model.specs.Validity.{IsValid}
 use Rattle.dev_model.proofs.Keeps.{keeps_valid}
-use Rattle.wire_model.specs.Peers.{Peer, Apart, Joined, device_of, OfLink, OnLink}
+use Rattle.wire_told.specs.Peers.{Peer, Apart, Joined, device_of, OfLink, OnLink}
 use Rattle.wire_model.specs.Wire.{Wire}
-use Rattle.wire_model.specs.Told.{IsBarred, Opened, Idle}
-use Rattle.wire_model.proofs.Lifted.{on-on, on-then}
+use Rattle.wire_told.specs.Told.{IsBarred, Opened, Idle}
+use Rattle.wire_told.proofs.Lifted.{on-on, on-then}
 use Rattle.fb_top.specs.declared.asking.AskFail.{AskFail}
 use Rattle.fb_top.specs.declared.asking.AskFail.TheVariants as ask
 use Rattle.fb_top.specs.declared.plan.PlanKind.{PlanKind}

@@ -1,6 +1,6 @@
 -- What stays of a port's places in a whole run of fbflash.
 use Rattle.std.proofs.Common.{◌≡◌, ◌≢◌, Bool, Option, Some, None, refl, sym, ap, ◌∙◌, subst, arith}
-use Rattle.wire_model.specs.Places.{Place, Stand, Stands, LastBy, IsLast, KeepsOthers, IsKept}
+use Rattle.wire_told.specs.Places.{Place, Stand, Stands, LastBy, IsLast, KeepsOthers, IsKept}
 use Rattle.fb_top.specs.declared.host.HostError.{HostError}
 use Rattle.fb_top.specs.declared.host.HostError.TheVariants as host
 use Rattle.fb_top.specs.declared.product.ProductError.TheVariants as flawed

@@ -5,13 +5,13 @@ use Rattle.fb_message.specs.declared.reply.Reply.{Reply}
 use Rattle.fb_message.specs.declared.reply.Reply.TheVariants.{Okay, Fail, Load}
 use Rattle.fb_message.specs.CommandText.{CommandValue, GetVar, Download, Flash}
 use Rattle.dev_model.specs.Validity.{IsValid}
-use Rattle.wire_model.specs.Peers.{Peer, OfLink, OnLink}
+use Rattle.wire_told.specs.Peers.{Peer, OfLink, OnLink}
 use Rattle.wire_model.specs.Says.{says}
 use Rattle.wire_model.specs.Wire.{Wire}
 use Rattle.wire_model.specs.Halts.{Halts}
-use Rattle.wire_model.specs.FirstPath.{is_first_path}
-use Rattle.wire_model.specs.Told.{Idle, Receiving}
-use Rattle.wire_model.specs.Replied.{is_steady}
+use Rattle.wire_told.specs.FirstPath.{is_first_path}
+use Rattle.wire_told.specs.Told.{Idle, Receiving}
+use Rattle.wire_told.specs.Replied.{is_steady}
 use Rattle.dev_model.specs.Variables.{value}
 use Rattle.fb_top.specs.declared.asking.Told.{Told}
 use Rattle.fb_top.specs.declared.asking.Told.TheVariants as told

@@ -8,8 +8,8 @@ use Rattle.dev_model.specs.declared.step.Step.TheVariants.{Put}
 use Rattle.dev_model.specs.Partitions.{is_fastboot}
 use Rattle.dev_model.specs.Refusals.{refusal_of}
 use Rattle.dev_model.specs.Steps.{can, apply}
-use Rattle.wire_model.specs.Peers.{Peer, device_of, OfLink, OnLink}
-use Rattle.wire_model.specs.Told.{IsIdle}
+use Rattle.wire_told.specs.Peers.{Peer, device_of, OfLink, OnLink}
+use Rattle.wire_told.specs.Told.{IsIdle}
 use Rattle.wire_model.specs.Wire.{Wire}
 
 -- the told device answers fastboot commands

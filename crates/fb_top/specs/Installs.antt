@@ -2,8 +2,8 @@
 use Rattle.std.specs.Prelude.{◌≡◌, ◌≢◌, ◌⊎◌, ℕ, List, Option, Some, None, Result, Ok, Err}
 use Rattle.dev_model.specs.declared.device.Dev.{Dev}
 use Rattle.flash_plan.specs.Files.{Files}
-use Rattle.wire_model.specs.Peers.{Peer, device_of}
-use Rattle.wire_model.specs.Places.{Place, ImageAt, Stand, Stands, Device, Bad, Nothing, IsNothing}
+use Rattle.wire_told.specs.Peers.{Peer, device_of}
+use Rattle.wire_told.specs.Places.{Place, ImageAt, Stand, Stands, Device, Bad, Nothing, IsNothing}
 use Rattle.fb_top.specs.declared.host.HostError.{HostError}
 use Rattle.fb_top.specs.declared.host.HostError.TheVariants as host
 use Rattle.fb_top.specs.declared.product.ProductError.TheVariants as flawed

@@ -8,7 +8,7 @@ use Rattle.dev_model.specs.declared.step.Step.{Step}
 use Rattle.dev_model.specs.Refusals.{refusal_of}
 use Rattle.dev_model.specs.Steps.{apply}
 use Rattle.flash_plan.specs.Files.{Files}
-use Rattle.wire_model.specs.Places.{ImageAt, Stand, Stands, Device, Bad, Nothing}
+use Rattle.wire_told.specs.Places.{ImageAt, Stand, Stands, Device, Bad, Nothing}
 use Rattle.fb_top.specs.declared.plan.PlanKind.{PlanKind}
 use Rattle.fb_top.specs.declared.product.Flaw.{Flaw}
 use Rattle.fb_top.specs.HostWords.{FlashAllText}

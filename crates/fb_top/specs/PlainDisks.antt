@@ -3,8 +3,8 @@ use Rattle.std.specs.Prelude.{◌≡◌, ◌≢◌, ℕ, Bool, true, false, not,
 use Rattle.dev_model.specs.declared.device.Mode.{Mode}
 use Rattle.dev_model.specs.declared.device.Mode.TheVariants.{Bootloader, Halted}
 use Rattle.dev_model.specs.Partitions.{with_mode}
-use Rattle.wire_model.specs.Peers.{Peer, device_of}
-use Rattle.wire_model.specs.Places.{Place, Stand, Device, Stands}
+use Rattle.wire_told.specs.Peers.{Peer, device_of}
+use Rattle.wire_told.specs.Places.{Place, Stand, Device, Stands}
 use Rattle.fb_top.specs.declared.plain_peer.PlainPeer.{PlainPeer}
 
 -- the open file is as long as the device's image, where there is a device

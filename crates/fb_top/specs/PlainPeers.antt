@@ -2,7 +2,7 @@
 use Rattle.std.specs.Prelude.{◌≡◌, ℕ, List, Option, Some, None, Bool, false, if◌then◌else◌}
 use Rattle.dev_model.specs.declared.device.Dev.{Dev}
 use Rattle.wire_model.specs.Halts.{Goes}
-use Rattle.wire_model.specs.Peers.{Peer, Apart, Joined}
+use Rattle.wire_told.specs.Peers.{Peer, Apart, Joined}
 use Rattle.wire_model.specs.Wire.{Wire}
 use Rattle.fb_top.specs.declared.plain_peer.PlainPeer.{PlainPeer}
 use Rattle.fb_top.specs.PlainDevices.{dev_of}

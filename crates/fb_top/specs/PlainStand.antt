@@ -5,7 +5,7 @@ use Rattle.dev_model.specs.Validity.{is_label}
 use Rattle.dev_model.specs.declared.bad_image.BadImage.{BadImage}
 use Rattle.dev_model.specs.declared.bad_image.BadImage.TheVariants.{ShortFile, BadLayout, BadLength, BadState}
 use Rattle.dev_model.specs.declared.device.Mode.TheVariants.{Bootloader}
-use Rattle.wire_model.specs.Places.{ImageAt, TcpAt, Stand, Device, Bad, Nothing, Stands}
+use Rattle.wire_told.specs.Places.{ImageAt, TcpAt, Stand, Device, Bad, Nothing, Stands}
 use Rattle.dev_disk.specs.Files.{Files}
 use Rattle.fb_top.specs.declared.plain_layout.PlainLayout.{PlainLayout}
 use Rattle.fb_top.specs.PlainLayout.{layout_of, is_size}

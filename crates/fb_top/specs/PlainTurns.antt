@@ -2,7 +2,7 @@
 use Rattle.std.specs.Prelude.{ℕ, ◌+◌, ◌-◌, ◌^◌, Bool, ◌&&◌, ◌||◌, List, [], length, drop, nat_le, nat_lt, nat_eq, Option, Some, None, is_none, if◌then◌else◌}
 use Rattle.fb_frame.specs.Framing.{announced}
 use Rattle.fb_message.specs.CommandText.{command_of}
-use Rattle.wire_model.specs.FirstPath.{is_first_path}
+use Rattle.wire_told.specs.FirstPath.{is_first_path}
 use Rattle.wire_model.specs.Says.{Loaded}
 use Rattle.wire_model.specs.Wire.{Wire, Item, Greeting, Payload, front, heard}
 use Rattle.fb_top.specs.declared.plain_stage.Stage.{Stage}

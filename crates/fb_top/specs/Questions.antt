@@ -2,7 +2,7 @@
 use Rattle.std.specs.Prelude.{◌≡◌, ℕ, Bool, true, false, List, ◌++◌, Option, Some, None, if◌then◌else◌, bytes_eq, codes}
 use Rattle.dev_model.specs.declared.device.Dev.{Dev}
 use Rattle.dev_model.specs.Partitions.{has_slots}
-use Rattle.wire_model.specs.Peers.{Peer, OnLink}
+use Rattle.wire_told.specs.Peers.{Peer, OnLink}
 use Rattle.wire_model.specs.Wire.{Wire}
 use Rattle.fb_top.specs.Plans.{kind_of}
 

@@ -5,7 +5,7 @@ use Rattle.dev_model.specs.declared.device.Mode.TheVariants.{Bootloader}
 use Rattle.dev_model.specs.Partitions.{with_mode}
 use Rattle.dev_disk.specs.Files as disk
 use Rattle.flash_plan.specs.Files.{Files}
-use Rattle.wire_model.specs.Places.{Stand, Device, ImageAt}
+use Rattle.wire_told.specs.Places.{Stand, Device, ImageAt}
 use Rattle.fb_top.specs.HostWords.{FlashAllText}
 use Rattle.fb_top.specs.Installs.{installed_on}
 use Rattle.fb_top.specs.PlainStand.{stand_in, plain_stands}

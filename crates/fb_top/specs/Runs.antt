@@ -8,8 +8,8 @@ use Rattle.dev_model.specs.declared.step.Step.TheVariants.{Put, Boot}
 use Rattle.dev_model.specs.declared.device.Mode.TheVariants.{System}
 use Rattle.dev_model.specs.Steps.{run}
 use Rattle.dev_model.specs.Validity.{IsValid}
-use Rattle.wire_model.specs.Peers.{Peer, Apart, Joined}
-use Rattle.wire_model.specs.Told.{MayConnect}
+use Rattle.wire_told.specs.Peers.{Peer, Apart, Joined}
+use Rattle.wire_told.specs.Told.{MayConnect}
 use Rattle.fb_top.specs.declared.asking.AskFail.{AskFail}
 use Rattle.fb_top.specs.declared.asking.AskFail.TheVariants as ask
 use Rattle.fb_top.specs.declared.plan.PlanKind.{PlanKind}

@@ -1,6 +1,6 @@
 -- The target of fbflash's words among the places of a port.
 use Rattle.std.specs.Prelude.{◌≡◌, Option, Some, None}
-use Rattle.wire_model.specs.Places.{Place, ImageAt, Stands, IsLast, KeepsOthers}
+use Rattle.wire_told.specs.Places.{Place, ImageAt, Stands, IsLast, KeepsOthers}
 use Rattle.fb_top.specs.declared.host.HostError.{HostError}
 use Rattle.fb_top.specs.declared.host.HostError.TheVariants as host
 use Rattle.fb_top.specs.HostWords.{FlashAllText}

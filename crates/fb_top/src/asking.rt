@@ -3,9 +3,9 @@ ghost use Rattle.std.specs.Result.{result_ok};
 ghost use Rattle.fb_frame.specs.Causes.{Rose};
 ghost use Rattle.fb_message.specs.CommandText.{GetVar, command_value, is_written, spelling};
 ghost use Rattle.fb_message.specs.ReplyText.{reply_of};
-ghost use Rattle.wire_model.specs.Places.{IsKept};
-ghost use Rattle.wire_model.specs.Replied.{is_steady};
-ghost use Rattle.wire_model.specs.Told.{Idle};
+ghost use Rattle.wire_told.specs.Places.{IsKept};
+ghost use Rattle.wire_told.specs.Replied.{is_steady};
+ghost use Rattle.wire_told.specs.Told.{Idle};
 ghost use Rattle.fb_top.specs.Asking.{Answered, ValidPeer, IsTaken, Why, IsCut, NeverRefuses, data_of, Behind, Tells, told_text};
 
 use fb_link::host::{AskError, ask};

@@ -1,8 +1,8 @@
 ghost use Rattle.std.specs.Prelude.{◌≡◌, ◌≢◌, codes, IsFalse, ◌⊎◌, ℕ, ◌+◌, ◌*◌, ◌<◌, ◌≤◌, Option, Some, None, List, [], length, IsTrue, OnOk, IfOk, IfErr};
 ghost use Rattle.dev_model.specs.declared.device.Mode.TheVariants.{System};
 ghost use Rattle.dev_model.specs.declared.step.Step.TheVariants.{Boot};
-ghost use Rattle.wire_model.specs.Places.{IsKept};
-ghost use Rattle.wire_model.specs.Told.{Idle};
+ghost use Rattle.wire_told.specs.Places.{IsKept};
+ghost use Rattle.wire_told.specs.Told.{Idle};
 ghost use Rattle.fb_top.specs.Asking.{ValidPeer, Why, IsCut, NeverRefuses};
 ghost use Rattle.fb_top.specs.Flashing.{Serves, Downloaded, put_step, Took, Refused};
 ghost use Rattle.fb_top.specs.Products.{IsRawImage};

@@ -1,6 +1,6 @@
 ghost use Rattle.std.specs.Prelude.{◌≡◌, ◌≢◌, ◌⊎◌, ℕ, ◌≤◌, List, map, Option, Some, None, false, IsTrue, OnOk, IfOk, IfErr, string_bytes, option_map};
 ghost use Rattle.fb_frame.specs.Causes.{Rose};
-ghost use Rattle.wire_model.specs.Places.{ImageAt, Stands, IsLast, KeepsOthers};
+ghost use Rattle.wire_told.specs.Places.{ImageAt, Stands, IsLast, KeepsOthers};
 ghost use Rattle.fb_top.specs.Asking.{IsCut};
 ghost use Rattle.fb_top.specs.HostWords.{host_words, text_of};
 ghost use Rattle.fb_top.specs.Installs.{Succeeds, Installs, IsElsewhere, IsAbsent, IsUntold, IsEarly, IsStill, Leaves, QuietHost, WhyHost, status_of, OfProduct, InstallsOn};

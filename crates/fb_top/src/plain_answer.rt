@@ -4,7 +4,7 @@ ghost use Rattle.dev_model.specs.declared.device.Mode.TheVariants.{Halted};
 ghost use Rattle.dev_model.specs.Partitions.{with_mode};
 ghost use Rattle.dev_model.specs.Refusals.{flash_refusal};
 ghost use Rattle.dev_model.specs.Variables.{value};
-ghost use Rattle.wire_model.specs.FirstPath.{is_first_question, is_raw};
+ghost use Rattle.wire_told.specs.FirstPath.{is_first_question, is_raw};
 ghost use Rattle.wire_model.specs.Halts.{Halts};
 ghost use Rattle.wire_model.specs.Says.{mode_of};
 ghost use Rattle.fb_top.specs.PlainDevices.{dev_of, is_named, KeepsFront};

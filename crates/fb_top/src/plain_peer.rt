@@ -35,8 +35,8 @@ pub struct Taken {
 
 impl PlainPeer {
     ghost use Rattle.wire_model.specs.Wire.{fresh, after};
-    ghost use Rattle.wire_model.specs.Turns.{IsTurn};
-    ghost use Rattle.wire_model.specs.Told.{MayConnect};
+    ghost use Rattle.wire_told.specs.Turns.{IsTurn};
+    ghost use Rattle.wire_told.specs.Told.{MayConnect};
     ghost use Rattle.dev_model.specs.Partitions.{is_fastboot};
     ghost use Rattle.dev_model.specs.declared.device.Mode.TheVariants.{Halted};
     ghost use Rattle.dev_model.specs.Partitions.{with_mode};

@@ -22,7 +22,7 @@ pub struct PlainPort<K: Disk> {
 }
 
 impl<K: Disk> PlainPort<K> {
-    ghost use Rattle.wire_model.specs.Peers.{device_of};
+    ghost use Rattle.wire_told.specs.Peers.{device_of};
     ghost use Rattle.fb_top.specs.PlainDisks.{Holds};
     ghost use Rattle.fb_top.specs.PlainStand.{plain_stands};
 
@@ -74,7 +74,7 @@ impl<K: Disk> Port for PlainPort<K> {
     ghost use Rattle.fb_top.specs.PlainPeers.{peer_of, is_up};
     ghost use Rattle.fb_top.specs.PlainStand.{plain_stands};
     ghost use Rattle.fb_top.specs.PlainTurns.{is_answered};
-    ghost use Rattle.wire_model.specs.Places.{ImageAt};
+    ghost use Rattle.wire_told.specs.Places.{ImageAt};
 
     ghost peer = { λ p. peer_of p.peer };
 

@@ -1,7 +1,7 @@
 ghost use Rattle.std.specs.Prelude.{◌≡◌, ◌⊎◌, ℕ, ◌+◌, ◌<◌, ◌≤◌, ◌++◌, Option, Some, None, List, length, take, IsTrue, OnOk, IfOk, IfErr, codes};
 ghost use Rattle.fb_frame.specs.NameText.{IsName};
-ghost use Rattle.wire_model.specs.Places.{IsKept};
-ghost use Rattle.wire_model.specs.Told.{Idle};
+ghost use Rattle.wire_told.specs.Places.{IsKept};
+ghost use Rattle.wire_told.specs.Told.{Idle};
 ghost use Rattle.fb_top.specs.Asking.{ValidPeer, Why, IsCut, NeverRefuses, NoneRefuses, told_text};
 ghost use Rattle.fb_top.specs.Questions.{slots_read, kind_read, kind_question, LearnsSlots, LearnsKind, LearnsMax};
 

@@ -1,8 +1,8 @@
 ghost use Rattle.std.specs.Prelude.{◌≡◌, ◌⊎◌, ℕ, ◌+◌, ◌*◌, ◌≤◌, ◌^◌, List, Ok, Err, None, length, IsTrue, OnOk, IfOk, IfErr};
 ghost use Rattle.fb_frame.specs.Causes.{Rose};
 ghost use Rattle.fb_frame.specs.Sinks.{Grew};
-ghost use Rattle.wire_model.specs.Places.{IsKept};
-ghost use Rattle.wire_model.specs.Told.{Idle};
+ghost use Rattle.wire_told.specs.Places.{IsKept};
+ghost use Rattle.wire_told.specs.Told.{Idle};
 ghost use Rattle.fb_top.specs.Asking.{ValidPeer, IsCut, NoneRefuses};
 ghost use Rattle.fb_top.specs.Flashing.{Serves};
 ghost use Rattle.fb_top.specs.Printed.{flash_line, step_lines};

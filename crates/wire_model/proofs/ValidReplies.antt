@@ -14,13 +14,11 @@ use Rattle.dev_model.specs.declared.device.Dev.{Dev}
 use Rattle.dev_model.specs.Validity.{IsValid}
 use Rattle.dev_model.specs.Variables.{Row, value, all_rows}
 use Rattle.dev_model.proofs.Valid.{and-true}
-use Rattle.wire_model.specs.Peers.{Peer, OfLink}
 use Rattle.dev_model.specs.Refusals.{flash_refusal, erase_refusal, active_refusal, download_refusal, lock_refusal, create_refusal, delete_refusal, resize_refusal, update_refusal}
 use Rattle.wire_model.specs.TableFile.{tables_of}
 use Rattle.wire_model.specs.Says.{Loaded, says, decides, awaits, tells, tells_all}
 use Rattle.wire_model.specs.Laws.{SaysReplies}
-use Rattle.wire_model.specs.Told.{IsShort, AreShort, replies_to, IsNoLoad}
-use Rattle.wire_model.proofs.Lifted.{of-of}
+use Rattle.wire_model.specs.Replies.{IsShort, IsNoLoad}
 use Rattle.dev_model.specs.Texts.{AreShortRows}
 use Rattle.dev_model.proofs.ShortTexts.{rows_short, value_short}
 use Rattle.dev_model.proofs.RowCounts.{rows_few}
@@ -63,9 +61,6 @@ valid-short dev loaded (Create name size) v = says-short dev loaded (Create name
 valid-short dev loaded (Delete name) v = says-short dev loaded (Delete name) (λ x. x)
 valid-short dev loaded (Resize name size) v = says-short dev loaded (Resize name size) (λ x. x)
 valid-short dev loaded Unknown v = says-short dev loaded Unknown (λ x. x)
-
-pub AreShort-valid : (a : Option Peer) (p : List ℕ) → OfLink (λ w. IsValid w.device) a → AreShort p a
-AreShort-valid a p v = of-of (λ w. IsValid w.device) (λ w. All IsShort (replies_to p w)) (λ w h. valid-short w.device w.loaded (command_of p) h) a v
 
 -- Each of them is a reply: a count that DATA tells fits 32 bits.
 text-fits : (reply : Reply) → IsNoLoad reply → IsShort (reply_bytes reply) → reply_fits reply ≡ true

@@ -1,5 +1,5 @@
 use Rattle.fb_top.proofs.HostLemmas.{installs-on, hung-on, is-done}
-use Rattle.wire_model.specs.Places.{ImageAt}
+use Rattle.wire_told.specs.Places.{ImageAt}
 use Rattle.fb_top.proofs.host.flash_product.Goals as goal
 
 pub returns-in-Ok-outcome-clause-success : goal.returns-in-Ok-outcome-clause-success

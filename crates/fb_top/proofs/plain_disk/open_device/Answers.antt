@@ -2,8 +2,8 @@ use Rattle.std.proofs.Common.{◌≡◌, ◌+◌, length, take, drop, refl, sym,
 use Rattle.dev_model.specs.declared.bad_image.BadImage.{BadImage}
 use Rattle.dev_model.specs.declared.device.Dev.{Dev}
 use Rattle.dev_model.specs.declared.device.Mode.TheVariants.{Bootloader}
-use Rattle.wire_model.specs.Peers.{Apart}
-use Rattle.wire_model.specs.Places.{ImageAt, Device, Bad, Aims, IsBad}
+use Rattle.wire_told.specs.Peers.{Apart}
+use Rattle.wire_told.specs.Places.{ImageAt, Device, Bad, Aims, IsBad}
 use Rattle.fb_top.specs.PlainDevices.{plain_dev}
 use Rattle.fb_top.specs.PlainStand.{plain_stands, stand_of}
 use Rattle.fb_top.proofs.PlainFiles.{aims_at, bad_at}

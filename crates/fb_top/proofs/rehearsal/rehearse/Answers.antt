@@ -1,6 +1,6 @@
 use Rattle.std.proofs.Common.{inl, inr, map, subst}
 use Rattle.std.specs.Prelude.{option_map, string_bytes}
-use Rattle.wire_model.specs.Places.{ImageAt, Stands}
+use Rattle.wire_told.specs.Places.{ImageAt, Stands}
 use Rattle.fb_top.specs.HostWords.{host_words}
 use Rattle.fb_top.specs.Installs.{IsUntold}
 use Rattle.fb_top.specs.PlainPeers.{peer_of}

@@ -1,6 +1,6 @@
 use Rattle.std.proofs.Common.{Ok, ◌+◌, ◌*◌, ◌^◌, ◌≤◌, length, arith}
 use Rattle.fb_frame.specs.Causes.{Rose}
-use Rattle.wire_model.proofs.GreetLemmas.{Idle-less}
+use Rattle.wire_told.proofs.GreetLemmas.{Idle-less}
 use Rattle.fb_top.specs.Runs.{product_value, two_steps}
 use Rattle.fb_top.proofs.RunLemmas.{Opened-parts, Serves-planned, Installed-ran, why-ran}
 use Rattle.fb_top.proofs.run.drive.Goals as goal

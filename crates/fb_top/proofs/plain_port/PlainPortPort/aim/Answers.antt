@@ -3,7 +3,7 @@ use Rattle.std.specs.Prelude.{option_map}
 use Rattle.dev_disk.specs.Calls.{IsOpen}
 use Rattle.fb_link.specs.Targets.{place_of}
 use Rattle.fb_link.specs.declared.port.Target.{Target}
-use Rattle.wire_model.specs.Places.{ImageAt, IsLast}
+use Rattle.wire_told.specs.Places.{ImageAt, IsLast}
 use Rattle.fb_top.specs.PlainStand.{plain_stands}
 use Rattle.dev_disk.specs.Files.{content}
 use Rattle.fb_top.specs.declared.plain_device.PlainDevice.{PlainDevice}

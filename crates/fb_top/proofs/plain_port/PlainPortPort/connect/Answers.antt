@@ -1,5 +1,5 @@
 use Rattle.std.proofs.Common.{refl, sym, ap, ◌∙◌, subst, Option, Some}
-use Rattle.wire_model.specs.Told.{HungUp}
+use Rattle.wire_told.specs.Told.{HungUp}
 use Rattle.fb_top.specs.declared.plain_device.PlainDevice.{PlainDevice}
 use Rattle.fb_top.specs.declared.plain_peer.PlainPeer.{PlainPeer}
 use Rattle.fb_top.specs.PlainDevices.{dev_of}

@@ -1,7 +1,7 @@
 use Rattle.std.proofs.Common.{take, sym, ap, ◌∙◌, subst, Option, Some}
 use Rattle.std.specs.Prelude.{option_map, is_some}
-use Rattle.wire_model.specs.Places.{ImageAt}
-use Rattle.wire_model.specs.Told.{Sent}
+use Rattle.wire_told.specs.Places.{ImageAt}
+use Rattle.wire_told.specs.Told.{Sent}
 use Rattle.fb_top.specs.declared.plain_peer.PlainPeer.{PlainPeer}
 use Rattle.fb_top.specs.PlainDevices.{dev_of}
 use Rattle.fb_top.specs.PlainDisks.{is_open_for, is_held}

@@ -1,0 +1,9 @@
+pub mod Peers
+pub mod Turns
+pub mod FirstPath
+pub mod Told
+pub mod Places
+pub mod Replied
+pub mod Answered
+pub mod Ports
+pub mod Exchanges
