@@ -7,14 +7,14 @@ use Rattle.fb_frame.specs.Causes.{Rose}
 use Rattle.fb_message.specs.declared.reply.Reply.{Reply}
 use Rattle.fb_message.specs.ReplyText.{reply_fits}
 use Rattle.wire_told.specs.Peers.{Peer, Apart, Joined}
-use Rattle.wire_model.specs.Wire.{Wire, after}
+use Rattle.wire_model.specs.Wire.{Wire}
 use Rattle.wire_told.specs.Turns.{CommandTest}
 use Rattle.wire_told.specs.Told.{GoesBy, Sent, LeftBy, Heard, HungUp, OneFrame, IsFront, MaySend}
-use Rattle.wire_told.specs.Answered.{ends_well, reply_frames, IsListening, Listening, IsBetween, Between, IsSending, Downloading, Took}
+use Rattle.wire_told.specs.Answered.{ends_well, reply_frames, IsListening, Listening, IsBetween, Between, IsSending, Downloading, got_of, IsWritten, Wrote, Loads}
 use Rattle.wire_told.proofs.Lifted.{of-of, of-on, with-on}
 use Rattle.wire_told.proofs.ToldLemmas.{head-front, payload-front}
 use Rattle.wire_told.proofs.DataLemmas.{data-frame, data-passes, data-left}
-use Rattle.wire_told.proofs.StateLemmas.{due-of, due-receiving, took-data, sending-less, sent-okay, finished}
+use Rattle.wire_told.proofs.StateLemmas.{due-of, due-receiving, written, sending-less, loads, sent-okay, finished}
 
 chunk-frame : (left : ℕ) (p : List ℕ) (w : Wire) → IsSending left w → 0 < length p → length p ≤ left → length p ≤ 65536 → OneFrame p (frame p) w
 chunk-frame left p w s some h small =
@@ -38,9 +38,9 @@ pub MaySend-chunk : (test : CommandTest) (k l left : ℕ) (p head_bytes : List �
 MaySend-chunk test k l left p head_bytes a b s some h small e g =
     of-on (IsSending left) (λ w v. GoesBy (Rose k l) w head_bytes v) (IsFront test p) (λ w v q r. chunk-rest test (Rose k l) left p head_bytes some h small e w v q r) a b s g
 
-pub Took-chunk : (k l left : ℕ) (p : List ℕ) (a b : Option Peer) → Downloading left a → 0 < length p → length p ≤ left → length p ≤ 65536 → Sent k l a b (frame p) → Took a b (frame p)
-Took-chunk k l left p a b s some h small g =
-    with-on (IsSending left) (λ w v. GoesBy (Rose k l) w (frame p) v) (λ w v. v ≡ after w (frame p)) (λ w v q r. took-data (Rose k l) left p w v q some h small r) a b s g
+pub Wrote-chunk : (k l left : ℕ) (p : List ℕ) (a b : Option Peer) → Downloading left a → 0 < length p → length p ≤ left → length p ≤ 65536 → Sent k l a b (frame p) → Wrote a b p
+Wrote-chunk k l left p a b s some h small g =
+    with-on (IsSending left) (λ w v. GoesBy (Rose k l) w (frame p) v) (IsWritten p) (λ w v q r. written (Rose k l) left p w v q some h small r) a b s g
 
 pub Downloading-less : (k l left : ℕ) (p : List ℕ) (a b : Option Peer) → Downloading left a → 0 < length p → length p ≤ left → length p ≤ 65536 → Sent k l a b (frame p) → Downloading (left - length p) b
 Downloading-less k l left p a b s some h small g =
@@ -59,7 +59,7 @@ HungUp-chunk k l left p (Some (Joined w)) (Some (Apart dev)) s some h small g =
 
 pub ruleset chunk_frame = (MaySend-chunk-head, MaySend-chunk)
 
-pub ruleset chunk_step = (Took-chunk, Downloading-less, HungUp-chunk)
+pub ruleset chunk_step = (Wrote-chunk, Downloading-less, HungUp-chunk)
 
 -- The end of a download.
 pub Listening-okay : (n : ℕ) (a : Option Peer) → n < 10000 → Downloading 0 a → Listening n a
@@ -68,3 +68,8 @@ Listening-okay n a h s = of-of (IsSending 0) (IsListening n) (λ w p. sent-okay 
 pub Between-finished : (rs : List Reply) (a b : Option Peer) → Downloading 0 a → ends_well rs ≡ true → list_all reply_fits rs ≡ true → Heard a b (reply_frames rs) → Between b
 Between-finished rs a b s ends fits h =
     of-on (IsSending 0) (λ w v. w ≡ record v { out = reply_frames rs ++ v.out }) IsBetween (λ w u p q. (finished rs w u p ends fits q).1) a b s h
+
+-- what came is loaded
+pub Loads-heard : (x : List ℕ) (a b : Option Peer) → Downloading 0 a → Heard a b x → Loads a b
+Loads-heard x a b s h =
+    with-on (IsSending 0) (λ w v. w ≡ record v { out = x ++ v.out }) (λ w v. v.loaded ≡ Some (got_of w)) (λ w v q e. loads x w v q e) a b s h

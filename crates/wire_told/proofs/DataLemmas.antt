@@ -13,6 +13,7 @@ use Rattle.wire_told.specs.Peers.{Peer, Apart, Joined}
 use Rattle.wire_model.specs.Wire.{Wire, Shake, Command, Data, received, paid}
 use Rattle.wire_told.specs.Turns.{room, CommandTest}
 use Rattle.wire_told.specs.Told.{GoesBy, Sent, OneFrame, IsFront, MaySend, IsReceiving, Receiving, IsFilled, Filled, IsLoaded, LoadedBy, IsLeft, LeftBy, Lost}
+use Rattle.wire_told.specs.Answered.{got_by, got_of}
 use Rattle.wire_told.proofs.Lifted.{of-of, of-on, of-stays, with-on, on-then, on-off}
 use Rattle.wire_told.proofs.OneFrames.{goes-same, length-frame, goes-whole, paid_by, IsBroken}
 use Rattle.wire_told.proofs.ToldLemmas.{head-front, payload-front, LeftBy-head}
@@ -166,9 +167,14 @@ MaySend-part test k l spare image at end head_bytes a b r i j s e g =
     let q : length (take (end - at) (drop at image)) ≡ end - at = omega arith in
     MaySend-data test k l spare (length image) (take at image) (take (end - at) (drop at image)) head_bytes a b r (omega arith) (omega arith) (omega arith) (e ∙ ap (to_be_bytes w64) (sym q)) g
 
-received-device : (count : ℕ) (got : List ℕ) (w : Wire) (n : ℕ) → (record (received count got w) { rest = []; taken = n }).device ≡ w.device
+pub received-device : (count : ℕ) (got : List ℕ) (w : Wire) (n : ℕ) → (record (received count got w) { rest = []; taken = n }).device ≡ w.device
 received-device count got w n =
     elim (nat_eq (length got) count) as (λ b. (cond b (record w { out = w.out ++ frame (codes "OKAY"); loaded = Some got; phase = Command }) (record w { phase = Data count got })).device ≡ w.device) [ true ↦ refl | false ↦ refl ]
+
+pub received-got : (count : ℕ) (got : List ℕ) (w : Wire) (n : ℕ) → got_of (record (received count got w) { rest = []; taken = n }) ≡ got
+unfolding got_of
+received-got count got w n =
+    elim (nat_eq (length got) count) as (λ b. got_by (cond b (record w { out = w.out ++ frame (codes "OKAY"); loaded = Some got; phase = Command }) (record w { phase = Data count got })).phase (cond b (record w { out = w.out ++ frame (codes "OKAY"); loaded = Some got; phase = Command }) (record w { phase = Data count got })).loaded ≡ got) [ true ↦ refl | false ↦ refl ]
 
 -- a frame of data, whole or not, leaves the device as it was
 data-same : (broke : Type 0) (spare count : ℕ) (got p : List ℕ) (n : ℕ) (w v : Wire) → IsReceiving spare count got w → 0 < length p → length got + length p ≤ count → length p ≤ 65536 → (n < length (frame p)) ⊎ (length (frame p) ≤ n) → GoesBy broke w (take n (frame p)) v → v.device ≡ w.device

@@ -7,16 +7,16 @@ use Rattle.fb_frame.specs.Causes.{Rose}
 use Rattle.fb_frame.specs.Framing.{frame}
 use Rattle.fb_message.specs.declared.reply.Reply.{Reply}
 use Rattle.fb_message.specs.declared.reply.Reply.TheVariants.{Okay, Fail, Info, Text, Load}
-use Rattle.fb_message.specs.CommandText.{CommandValue, spelling, command_of}
+use Rattle.fb_message.specs.CommandText.{CommandValue, GetVar, Download, Flash, Erase, SetActive, Reboot, Continue, Lock, Unlock, UnlockAbility, UpdateSuper, Create, Delete, Resize, Unknown, spelling, command_of}
 use Rattle.dev_model.specs.declared.device.Dev.{Dev}
 use Rattle.dev_model.proofs.Valid.{both}
 use Rattle.wire_told.specs.Peers.{Peer, Apart, Joined, OfLink, OnLink, OffLink}
-use Rattle.wire_model.specs.Says.{says}
+use Rattle.wire_model.specs.Says.{Loaded, says, decides, awaits}
 use Rattle.wire_model.specs.Wire.{Wire, Phase, Command, Data, with_replies, received, awaited, paid}
 use Rattle.wire_model.specs.Halts.{Halts}
 use Rattle.wire_model.specs.Replies.{IsNoLoad}
-use Rattle.wire_told.specs.Told.{GoesBy, IsLeft, LeftBy, IsIdle, Idle, OneFrame, StartsPlain}
-use Rattle.wire_told.specs.Answered.{is_line, IsSaid, IsAnswered, Answered, IsFree, Free}
+use Rattle.wire_told.specs.Told.{GoesBy, IsLeft, LeftBy, Heard, IsIdle, Idle, OneFrame, StartsPlain}
+use Rattle.wire_told.specs.Answered.{is_line, IsSaid, IsAnswered, Answered, IsFree, Free, IsWritten, Wrote}
 use Rattle.wire_told.specs.Exchanges.{said_to, IsCarriedOut, IsExchanged, IsInterrupted, Exchanged, IsFreeFor, FreeFor}
 use Rattle.wire_told.specs.Ports.{PortTold}
 use Rattle.wire_model.proofs.InParts.{told}
@@ -143,3 +143,46 @@ open-next broke c p end spare e h still unfailed w u f (inr x) = absurd (unfaile
 pub FreeFor-next : (c : CommandValue) (a b : PortTold) (p : List ℕ) (end : Reply) (spare : ℕ) → spelling c ≡ Some p → length p ≤ 4096 → ((w : Wire) → (said_to c w).closed ≡ false) → (end ≡ Fail (codes "disk fault") → ⊥) → FreeFor (4104 + spare) a.peer → Exchanged c a b (Some end) → FreeFor spare b.peer
 FreeFor-next c a b p end spare e h still unfailed f x =
     of-on (IsFreeFor (4104 + spare)) (IsExchanged (Rose a.faults b.faults) c end) (IsFreeFor spare) (open-next (Rose a.faults b.faults) c p end spare e h still unfailed) a.peer b.peer f x
+
+-- Only a reboot and `continue` close a connection.
+abbrev pub closes : CommandValue → Bool
+closes (Reboot what) = true
+closes Continue = true
+closes _ = false
+
+decides-open : (refusal : Option (List ℕ)) (change : Dev → Dev) (dev : Dev) (loaded : Loaded) → (decides refusal change dev loaded).closed ≡ false
+decides-open (Some text) change dev loaded = refl
+decides-open None change dev loaded = refl
+
+awaits-open : (refusal : Option (List ℕ)) (count : ℕ) (dev : Dev) (loaded : Loaded) → (awaits refusal count dev loaded).closed ≡ false
+awaits-open (Some text) count dev loaded = refl
+awaits-open None count dev loaded = refl
+
+pub said-open : (c : CommandValue) → closes c ≡ false → (w : Wire) → (said_to c w).closed ≡ false
+unfolding says
+said-open (GetVar name) e w = refl
+said-open (Download count) e w = awaits-open _ count w.device w.loaded
+said-open (Flash name) e w = decides-open _ _ w.device w.loaded
+said-open (Erase name) e w = decides-open _ _ w.device w.loaded
+said-open (SetActive slot) e w = decides-open _ _ w.device w.loaded
+said-open (Reboot what) e w = absurd cc
+said-open Continue e w = absurd cc
+said-open Lock e w = decides-open _ _ w.device w.loaded
+said-open Unlock e w = refl
+said-open UnlockAbility e w = refl
+said-open (UpdateSuper name wipe) e w = decides-open _ _ w.device w.loaded
+said-open (Create name size) e w = decides-open _ _ w.device w.loaded
+said-open (Delete name) e w = decides-open _ _ w.device w.loaded
+said-open (Resize name size) e w = decides-open _ _ w.device w.loaded
+said-open Unknown e w = refl
+
+-- A frame of data leaves as many bytes to come as it hasn't, and what is heard leaves all.
+pub FreeFor-wrote : (spare : ℕ) (p : List ℕ) (a b : Option Peer) → FreeFor (8 + length p + spare) a → Wrote a b p → FreeFor spare b
+FreeFor-wrote spare p a b f g =
+    of-on (IsFreeFor (8 + length p + spare)) (IsWritten p) (IsFreeFor spare)
+    (λ w v q r. record { running = r.running; bounded = omega (arith, q.bounded, r.taken, length-frame p) }) a b f g
+
+pub FreeFor-heard : (spare : ℕ) (x : List ℕ) (a b : Option Peer) → FreeFor spare a → Heard a b x → FreeFor spare b
+FreeFor-heard spare x a b f h =
+    of-on (IsFreeFor spare) (λ w v. w ≡ record v { out = x ++ v.out }) (IsFreeFor spare)
+    (λ w v q e. record { running = sym (ap (λ (y : Wire). y.closed) e) ∙ q.running; bounded = omega (arith, q.bounded, ap (λ (y : Wire). y.taken) e) }) a b f h

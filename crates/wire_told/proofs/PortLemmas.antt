@@ -22,7 +22,7 @@ others-trans : (last : Option Place) (f g h : Stands) → KeepsOthers last f g �
 others-trans last f g h p q = λ other n. q other n ∙ p other n
 
 pub Kept-same : (a : PortTold) → Kept a a
-Kept-same a = record { aimed_still = refl; last_same = refl; others = λ other n. refl; later = omega arith; no_fewer = omega arith }
+Kept-same a = record { aimed_still = refl; last_same = refl; others = λ other n. refl; later = omega arith; no_fewer = omega arith; honest = λ h. h }
 
 pub Kept-trans : (a b c : PortTold) → Kept a b → Kept b c → Kept a c
 Kept-trans a b c p q = record {
@@ -31,6 +31,7 @@ Kept-trans a b c p q = record {
   others = others-trans a.last a.stands b.stands c.stands p.others (subst (λ k. KeepsOthers k b.stands c.stands) p.last_same q.others);
   later = omega (arith, p.later, q.later);
   no_fewer = omega (arith, p.no_fewer, q.no_fewer);
+  honest = λ h. p.honest (q.honest h);
 }
 
 pub ruleset port_kept = (Kept-same, Kept-trans)

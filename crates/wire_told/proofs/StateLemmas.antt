@@ -15,11 +15,11 @@ use Rattle.wire_model.specs.Says.{Loaded, Said, says, awaits}
 use Rattle.wire_model.specs.Wire.{Wire, Command, Data, with_replies, answered, after}
 use Rattle.wire_model.specs.Replies.{IsNoLoad}
 use Rattle.wire_told.specs.Told.{GoesBy, IsIdle, done, StartsPlain, IsReceiving}
-use Rattle.wire_told.specs.Answered.{is_line, ends_well, reply_frames, IsSaid, IsAnswered, IsListening, IsBetween, IsDue, IsLoadedNow, IsSending, IsVerdict, announces, is_announced, suits}
+use Rattle.wire_told.specs.Answered.{is_line, ends_well, reply_frames, IsSaid, IsAnswered, IsListening, IsBetween, IsDue, IsLoadedNow, IsSending, IsVerdict, announces, is_announced, suits, got_by, got_of, IsWritten}
 use Rattle.wire_told.proofs.Going.{goes-plain, goes-after}
 use Rattle.wire_model.proofs.GoesValid.{goes_keeps_valid}
 use Rattle.wire_told.proofs.RepliesLemmas.{awaited-plain}
-use Rattle.wire_told.proofs.DataLemmas.{taken, filled, loaded_by}
+use Rattle.wire_told.proofs.DataLemmas.{taken, filled, loaded_by, received-device, received-got}
 use Rattle.wire_model.proofs.ValidReplies.{AllPlain, says-plain, IsNoDownload}
 use Rattle.wire_told.proofs.HearingLemmas.{same-replies}
 
@@ -201,10 +201,14 @@ zero-count count e = let h : count ≡ 0 = grind (arith, nat_tests) in h
 some-count : (count : ℕ) → (0 == count) ≡ false → 0 < count
 some-count count e = let h : 0 < count = grind (arith, nat_tests) in h
 
+-- a download has begun, of which no data came yet
+abbrev pub IsBegun : ℕ → Wire → Type 0
+IsBegun count u = IsSending count u × (got_of u ≡ [])
+
 sending-by : (b : Bool) (spare count : ℕ) (p : List ℕ) (w u : Wire) → (0 == count) ≡ b → IsIdle spare w → IsValid w.device → w.taken + length (frame p) + 9 * count < 2 ^ 62 →
     says w.device w.loaded (command_of p) ≡ record { replies = Load count ∷ []; device = w.device; loaded = None; closed = false } →
-    record u { out = reply_frames (Load count ∷ []) ++ u.out } ≡ done p w → IsSending count u
-unfolding with-load
+    record u { out = reply_frames (Load count ∷ []) ++ u.out } ≡ done p w → IsBegun count u
+unfolding with-load got_of
 sending-by true spare count p w u e i valid room said state =
     let n = zero-count count e in
     let all : record u { out = reply_frames (Load count ∷ []) ++ u.out } ≡ record (record (with-load count w) { out = (with-load count w).out ++ reply_frames (Okay [] ∷ []); loaded = Some []; phase = Command }) { rest = []; taken = w.taken + length (frame p) } =
@@ -212,13 +216,13 @@ sending-by true spare count p w u e i valid room said state =
     let o : reply_frames (Load count ∷ []) ++ u.out ≡ reply_frames (Load count ∷ []) ++ reply_frames (Okay [] ∷ []) =
     ap (λ (x : Wire). x.out) all ∙ ap (λ t. (t ++ reply_frames (Load count ∷ [])) ++ reply_frames (Okay [] ∷ [])) i.quiet in
     let P : Dev → Type 0 = λ d. IsValid d in
-    record {
+    (record {
       running = ap (λ (x : Wire). x.closed) all;
       rest = ap (λ (x : Wire). x.rest) all;
       valid = subst P (sym (ap (λ (x : Wire). x.device) all)) valid;
       bounded = omega (arith, room, ap (λ (x : Wire). x.taken) all);
-      due = inr (n, record { commanding = ap (λ (x : Wire). x.phase) all; okay = append-same (reply_frames (Load count ∷ [])) u.out (reply_frames (Okay [] ∷ [])) o });
-    }
+      due = inr (n, record { got = []; loaded = ap (λ (x : Wire). x.loaded) all; commanding = ap (λ (x : Wire). x.phase) all; okay = append-same (reply_frames (Load count ∷ [])) u.out (reply_frames (Okay [] ∷ [])) o });
+    }, ap got_of all)
 sending-by false spare count p w u e i valid room said state =
     let n = some-count count e in
     let all : record u { out = reply_frames (Load count ∷ []) ++ u.out } ≡ record (record (with-load count w) { phase = Data count [] }) { rest = []; taken = w.taken + length (frame p) } =
@@ -226,13 +230,13 @@ sending-by false spare count p w u e i valid room said state =
     let o : reply_frames (Load count ∷ []) ++ u.out ≡ reply_frames (Load count ∷ []) =
     ap (λ (x : Wire). x.out) all ∙ ap (λ t. t ++ reply_frames (Load count ∷ [])) i.quiet in
     let P : Dev → Type 0 = λ d. IsValid d in
-    record {
+    (record {
       running = ap (λ (x : Wire). x.closed) all;
       rest = ap (λ (x : Wire). x.rest) all;
       valid = subst P (sym (ap (λ (x : Wire). x.device) all)) valid;
       bounded = omega (arith, room, ap (λ (x : Wire). x.taken) all);
       due = inl (n, record { count = count; got = []; receiving = ap (λ (x : Wire). x.phase) all; all = omega arith; quiet = nothing-left (reply_frames (Load count ∷ [])) u.out o });
-    }
+    }, ap got_of all)
 
 load-not-fail : (count : ℕ) (text : List ℕ) → Load count ≡ Fail text → ⊥
 load-not-fail count text e = cc
@@ -240,14 +244,14 @@ load-not-fail count text e = cc
 load-count : (m n : ℕ) → Load m ≡ Load n → m ≡ n
 load-count m n e = cc
 
-sending-said : (spare count : ℕ) (p : List ℕ) (infos : List Reply) (w u : Wire) → command_of p ≡ Download count → IsIdle spare w → IsValid w.device → w.taken + length (frame p) + 9 * count < 2 ^ 62 → IsSaid p (infos ++ Load count ∷ []) w u → IsSending count u
+sending-said : (spare count : ℕ) (p : List ℕ) (infos : List Reply) (w u : Wire) → command_of p ≡ Download count → IsIdle spare w → IsValid w.device → w.taken + length (frame p) + 9 * count < 2 ^ 62 → IsSaid p (infos ++ Load count ∷ []) w u → IsBegun count u
 sending-said spare count p infos w u c i valid room s =
     let e : infos ++ Load count ∷ [] ≡ (asked_for w count).replies = s.all ∙ ap (λ x. (says w.device w.loaded x).replies) c in
     let one = one-reply w count in
     let alone = single infos (Load count) one.0 (e ∙ one.1) in
     pick alone.0 (to-load w count (Load count) (ap (λ t. t ++ Load count ∷ []) (sym alone.0) ∙ e))
   where
-    pick : infos ≡ [] → ((text : List ℕ) × (Load count ≡ Fail text)) ⊎ ((Load count ≡ Load count) × (asked_for w count ≡ record { replies = Load count ∷ []; device = w.device; loaded = None; closed = false })) → IsSending count u
+    pick : infos ≡ [] → ((text : List ℕ) × (Load count ≡ Fail text)) ⊎ ((Load count ≡ Load count) × (asked_for w count ≡ record { replies = Load count ∷ []; device = w.device; loaded = None; closed = false })) → IsBegun count u
     pick n (inl f) = absurd (load-not-fail count f.0 f.1)
     pick n (inr g) =
         sending-by (0 == count) spare count p w u refl i valid room
@@ -257,7 +261,7 @@ sending-said spare count p infos w u c i valid room s =
 fault-no-load : (infos : List Reply) (count : ℕ) → infos ++ Load count ∷ [] ≡ Fail (codes "disk fault") ∷ [] → ⊥
 fault-no-load infos count e = load-not-fail count (codes "disk fault") (single infos (Load count) (Fail (codes "disk fault")) e).1
 
-pub sending-load : (broke : Type 0) (spare count : ℕ) (p : List ℕ) (infos : List Reply) (w u : Wire) → command_of p ≡ Download count → IsIdle spare w → IsValid w.device → w.taken + length (frame p) + 9 * count < 2 ^ 62 → IsAnswered broke p (infos ++ Load count ∷ []) w u → IsSending count u
+pub sending-load : (broke : Type 0) (spare count : ℕ) (p : List ℕ) (infos : List Reply) (w u : Wire) → command_of p ≡ Download count → IsIdle spare w → IsValid w.device → w.taken + length (frame p) + 9 * count < 2 ^ 62 → IsAnswered broke p (infos ++ Load count ∷ []) w u → IsBegun count u
 sending-load broke spare count p infos w u c i valid room (inl s) = sending-said spare count p infos w u c i valid room s
 sending-load broke spare count p infos w u c i valid room (inr f) = absurd (fault-no-load infos count f.1.told)
 
@@ -313,7 +317,7 @@ sending-last broke left p w v s some h small g =
       rest = f.rest;
       valid = subst P (sym f.device) s.valid;
       bounded = omega (arith, f.bounded, h);
-      due = inr (omega (arith, h), record { commanding = f.commanding; okay = f.out ∙ sym (append-nil (frame (codes "OKAY"))) });
+      due = inr (omega (arith, h), record { got = d.got ++ p; loaded = f.loaded; commanding = f.commanding; okay = f.out ∙ sym (append-nil (frame (codes "OKAY"))) });
     }
 
 less-or-all : (m n : ℕ) → m ≤ n → (b : Bool) → nat_lt m n ≡ b → (m < n) ⊎ (m ≡ n)
@@ -327,6 +331,25 @@ sending-less broke left p w v s some h small g = pick (less-or-all (length p) le
     pick (inl k) = sending-some broke left p w v s some k small g
     pick (inr k) = sending-last broke left p w v s some k small g
 
+got-due : (w : Wire) (count : ℕ) (got : List ℕ) → w.phase ≡ Data count got → got_of w ≡ got
+unfolding got_of
+got-due w count got e = ap (λ ph. got_by ph w.loaded) e
+
+-- and its data came after what came before
+pub written : (broke : Type 0) (left : ℕ) (p : List ℕ) (w v : Wire) → IsSending left w → 0 < length p → length p ≤ left → length p ≤ 65536 → GoesBy broke w (frame p) v → IsWritten p w v
+written broke left p w v s some h small g =
+    let d = due-of left w (omega arith) s in
+    let i = due-receiving left w s d in
+    let e = taken broke 0 d.count d.got p w v i some (omega (arith, h, d.all)) small g in
+    let n = w.taken + length (frame p) in
+    record {
+      state = took-data broke left p w v s some h small g;
+      device = ap (λ (x : Wire). x.device) e ∙ received-device d.count (d.got ++ p) w n;
+      got = ap got_of e ∙ (received-got d.count (d.got ++ p) w n ∙ ap (λ t. t ++ p) (sym (got-due w d.count d.got d.receiving)));
+      running = (sending-less broke left p w v s some h small g).running;
+      taken = ap (λ (x : Wire). x.taken) e;
+    }
+
 -- The end of a download.
 loaded-by : (left : ℕ) (w : Wire) → left ≡ 0 → ((0 < left) × IsDue left w) ⊎ ((left ≡ 0) × IsLoadedNow w) → IsLoadedNow w
 loaded-by left w n (inl d) = absurd (omega (arith, d.0, n))
@@ -334,6 +357,14 @@ loaded-by left w n (inr z) = z.1
 
 loaded-of : (w : Wire) → IsSending 0 w → IsLoadedNow w
 loaded-of w s = loaded-by 0 w refl s.due
+
+-- what came is loaded, whatever was heard
+pub loads : (x : List ℕ) (w v : Wire) → IsSending 0 w → w ≡ record v { out = x ++ v.out } → v.loaded ≡ Some (got_of w)
+unfolding got_of
+loads x w v s e =
+    let l = loaded-of w s in
+    let g : got_by w.phase w.loaded ≡ l.got = ap (λ ph. got_by ph w.loaded) l.commanding ∙ ap (λ o. got_by Command o) l.loaded in
+    sym (ap (λ (x : Wire). x.loaded) e) ∙ (l.loaded ∙ ap Some (sym g))
 
 pub sent-okay : (n : ℕ) (w : Wire) → n < 10000 → IsSending 0 w → IsListening n w
 sent-okay n w h s =

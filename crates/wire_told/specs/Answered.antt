@@ -9,8 +9,8 @@ use Rattle.fb_message.specs.ReplyText.{reply_bytes, reply_fits}
 use Rattle.fb_message.specs.CommandText.{CommandValue, Download, command_of}
 use Rattle.dev_model.specs.Validity.{IsValid}
 use Rattle.wire_told.specs.Peers.{Peer, device_of, OfLink, OnLink}
-use Rattle.wire_model.specs.Says.{says}
-use Rattle.wire_model.specs.Wire.{Wire, Command, Data, after}
+use Rattle.wire_model.specs.Says.{Loaded, says}
+use Rattle.wire_model.specs.Wire.{Wire, Phase, Shake, Command, Data, after}
 use Rattle.wire_model.specs.Halts.{Halts}
 use Rattle.wire_told.specs.Told.{done}
 use Rattle.wire_told.specs.Replied.{failed_in}
@@ -121,8 +121,10 @@ pub record IsDue (left : ℕ) (w : Wire) : Type 0 where
   pub all : count ≡ length got + left
   pub quiet : w.out ≡ []
 
--- all data came, and OKAY is left to hear
+-- all data came and is loaded, and OKAY is left to hear
 pub record IsLoadedNow (w : Wire) : Type 0 where
+  pub got : List ℕ
+  pub loaded : w.loaded ≡ Some got
   pub commanding : w.phase ≡ Command
   pub okay : w.out ≡ reply_frames (Okay [] ∷ [])
 
@@ -163,6 +165,32 @@ suits command (Info text) = false
 suits command (Text text) = false
 suits command (Load n) = is_announced (announces command) n
 
--- the bytes were taken in whole, and no disk call failed
-abbrev pub Took : Option Peer → Option Peer → List ℕ → Type 0
-Took a b bytes = OnLink (λ w v. v ≡ after w bytes) a b
+-- The data that came of a download: the part that did while some is awaited, and all that is loaded after.
+abbrev pub got_by : Phase → Loaded → List ℕ
+got_by Shake loaded = []
+got_by Command None = []
+got_by Command (Some got) = got
+got_by (Data count got) loaded = got
+
+unfoldable pub got_of : Wire → List ℕ
+got_of w = got_by w.phase w.loaded
+
+-- no data came yet
+abbrev pub Unbegun : Option Peer → Type 0
+Unbegun a = OfLink (λ w. got_of w ≡ []) a
+
+-- The bytes were taken in one frame of data: they came after those before, the device is as it was, and the
+-- connection is open.
+pub record IsWritten (bytes : List ℕ) (w v : Wire) : Type 0 where
+  pub state : v ≡ after w (frame bytes)
+  pub device : v.device ≡ w.device
+  pub got : got_of v ≡ got_of w ++ bytes
+  pub running : v.closed ≡ false
+  pub taken : v.taken ≡ w.taken + length (frame bytes)
+
+abbrev pub Wrote : Option Peer → Option Peer → List ℕ → Type 0
+Wrote a b bytes = OnLink (IsWritten bytes) a b
+
+-- the data that came before is loaded
+abbrev pub Loads : Option Peer → Option Peer → Type 0
+Loads a b = OnLink (λ w v. v.loaded ≡ Some (got_of w)) a b

@@ -30,7 +30,9 @@ OpensAt (Some a) (Some (Joined w)) = w ≡ greeted_wire (device_of a)
 --   heard: the bytes received in the last connection, where the port tells them
 --   log: the bytes sent over all connections, joined, where the port tells them
 --   faults, ends: how many calls failed, and how often the end of a connection was met
-pub record PortTold : Type 0 where
+--   honest: what failed writes of the disk at the other end left so far reads as before, as written, or not at
+--     all; of a port without a disk it always holds
+pub record PortTold : Type 1 where
   pub peer : Option Peer
   pub up : Bool
   pub aimed : Bool
@@ -40,15 +42,17 @@ pub record PortTold : Type 0 where
   pub log : Option (List ℕ)
   pub faults : ℕ
   pub ends : ℕ
+  pub honest : Type 0
 
 -- What all calls but `aim` keep: whether the port is aimed, its last target, and what the others stand for;
--- and the counts never fall.
+-- and the counts never fall, and what is honest after was honest before.
 pub record Kept (old new : PortTold) : Type 0 where
   pub aimed_still : new.aimed ≡ old.aimed
   pub last_same : new.last ≡ old.last
   pub others : KeepsOthers old.last old.stands new.stands
   pub later : old.faults ≤ new.faults
   pub no_fewer : old.ends ≤ new.ends
+  pub honest : new.honest → old.honest
 
 -- some front of the bytes was appended to a told list
 pub record AppendedFront (a b : Option (List ℕ)) (bytes : List ℕ) : Type 0 where
@@ -137,13 +141,15 @@ pub record Begins (old new : PortTold) : Type 0 where
   pub log : new.log ≡ old.log
   pub ends : new.ends ≡ old.ends
 
--- No connection is up, nothing was sent or heard, and only a fault is counted.
+-- No connection is up, nothing was sent or heard, and only a fault is counted; what is honest after was
+-- honest before.
 pub record Turns (old new : PortTold) : Type 0 where
   pub down : IsFalse new.up
   pub heard : new.heard ≡ old.heard
   pub log : new.log ≡ old.log
   pub later : old.faults ≤ new.faults
   pub ends : new.ends ≡ old.ends
+  pub honest : new.honest → old.honest
 
 -- The port is aimed at the place, and no other target but the last one stands for anything else than it did.
 pub record IsAimed (old new : PortTold) (place : Place) : Type 0 where
@@ -152,8 +158,10 @@ pub record IsAimed (old new : PortTold) (place : Place) : Type 0 where
   pub aims : Aims old.stands place new.peer
   pub others : KeepsOthers new.last old.stands new.stands
 
--- The port is aimed at nothing and tells no device, and all targets stand for what they did.
-pub record IsAstray (old new : PortTold) : Type 0 where
+-- The port is aimed at nothing and tells no device. All targets stand for what they did, where what failed
+-- writes left is honest; and else no other than this one stands for anything else.
+pub record IsAstray (old new : PortTold) (place : Place) : Type 0 where
   pub astray : IsFalse new.aimed
   pub untold : new.peer ≡ None
-  pub stands : new.stands ≡ old.stands
+  pub stands : new.honest → new.stands ≡ old.stands
+  pub others : KeepsOthers (Some place) old.stands new.stands
