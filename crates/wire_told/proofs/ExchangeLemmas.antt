@@ -1,5 +1,5 @@
 -- What comes of a command over a told connection, whole or broken off.
-use Rattle.std.proofs.Common.{◌≡◌, ◌⊎◌, inl, inr, ℕ, ◌+◌, ◌^◌, ◌<◌, ◌≤◌, Bool, true, false, cond, refl, List, [], ◌∷◌, ◌++◌, length, take, drop, Option, Some, None, sym, ap, ◌∙◌, subst, arith, length-append, length-drop, take-append-drop, take_all}
+use Rattle.std.proofs.Common.{◌≡◌, ◌⊎◌, inl, inr, ℕ, ◌+◌, ◌-◌, ◌^◌, ◌<◌, ◌≤◌, Bool, true, false, cond, refl, List, [], ◌∷◌, ◌++◌, length, take, drop, Option, Some, None, sym, ap, ◌∙◌, subst, arith, length-append, length-drop, take-append-drop, take_all}
 use Rattle.std.specs.Prelude.{codes, nat_lt, ◌==◌}
 use Rattle.std.specs.List.{list_all}
 use Rattle.std.proofs.lemmas.Bool.Decides.{nat_tests}
@@ -16,9 +16,9 @@ use Rattle.wire_model.specs.Wire.{Wire, Phase, Command, Data, with_replies, rece
 use Rattle.wire_model.specs.Halts.{Halts}
 use Rattle.wire_model.specs.Replies.{IsNoLoad}
 use Rattle.wire_told.specs.Told.{GoesBy, IsLeft, LeftBy, Heard, IsIdle, Idle, OneFrame, StartsPlain}
-use Rattle.wire_told.specs.Answered.{is_line, IsSaid, IsAnswered, Answered, IsFree, Free, IsWritten, Wrote}
+use Rattle.wire_told.specs.Answered.{is_line, IsSaid, IsAnswered, IsFree, Free, got_of, Unbegun, IsWritten, Wrote, Loads}
 use Rattle.wire_told.specs.Exchanges.{said_to, IsCarriedOut, IsExchanged, IsInterrupted, Exchanged, IsFreeFor, FreeFor}
-use Rattle.wire_told.specs.Ports.{PortTold}
+use Rattle.wire_told.specs.Ports.{PortTold, OpensAt}
 use Rattle.wire_model.proofs.InParts.{told}
 use Rattle.wire_told.proofs.Lifted.{of-of, of-on, on-on}
 use Rattle.wire_told.proofs.OneFrames.{length-frame, paid_by, IsBroken, goes-same, goes-whole}
@@ -85,7 +85,7 @@ exchanged : (broke : Type 0) (p : List ℕ) (infos : List Reply) (end : Reply) �
 exchanged broke p infos end l e w u (inl s) = inl (said-so p infos end l e w u s)
 exchanged broke p infos end l e w u (inr f) = inr (f.0, record { told = only-last infos end (Fail (codes "disk fault")) f.1.told; halts = f.1.halts })
 
-pub Exchanged-answered : (k l : ℕ) (a b : Option Peer) (c : CommandValue) (p : List ℕ) (infos : List Reply) (end : Reply) → command_of p ≡ c → spelling c ≡ Some p → list_all is_line infos ≡ true → Answered k l a b p (infos ++ end ∷ []) → OnLink (IsExchanged (Rose k l) c end) a b
+pub Exchanged-answered : (k l : ℕ) (a b : Option Peer) (c : CommandValue) (p : List ℕ) (infos : List Reply) (end : Reply) → command_of p ≡ c → spelling c ≡ Some p → list_all is_line infos ≡ true → OnLink (IsAnswered (Rose k l) p (infos ++ end ∷ [])) a b → OnLink (IsExchanged (Rose k l) c end) a b
 Exchanged-answered k l a b c p infos end e f lines s =
     subst (λ x. OnLink (IsExchanged (Rose k l) x end) a b) e
     (on-on (IsAnswered (Rose k l) p (infos ++ end ∷ [])) (IsExchanged (Rose k l) (command_of p) end) (exchanged (Rose k l) p infos end lines (ap spelling e ∙ f)) a b s)
@@ -186,3 +186,20 @@ pub FreeFor-heard : (spare : ℕ) (x : List ℕ) (a b : Option Peer) → FreeFor
 FreeFor-heard spare x a b f h =
     of-on (IsFreeFor spare) (λ w v. w ≡ record v { out = x ++ v.out }) (IsFreeFor spare)
     (λ w v q e. record { running = sym (ap (λ (y : Wire). y.closed) e) ∙ q.running; bounded = omega (arith, q.bounded, ap (λ (y : Wire). y.taken) e) }) a b f h
+
+pub FreeFor-less : (m n : ℕ) (a : Option Peer) → n ≤ m → FreeFor m a → FreeFor n a
+FreeFor-less m n a h f = of-of (IsFreeFor m) (IsFreeFor n) (λ w q. record { running = q.running; bounded = omega (arith, h, q.bounded) }) a f
+
+-- a connection that began may take all but its handshake
+pub FreeFor-opened : (a b : Option Peer) → OpensAt a b → FreeFor (2 ^ 61 - 4) b
+FreeFor-opened None None o = tt
+FreeFor-opened None (Some q) o = absurd o
+FreeFor-opened (Some p) None o = absurd o
+FreeFor-opened (Some p) (Some (Apart dev)) o = absurd o
+FreeFor-opened (Some p) (Some (Joined w)) o = record { running = ap (λ (x : Wire). x.closed) o; bounded = omega (arith, ap (λ (x : Wire). x.taken) o) }
+
+-- a download in one frame is loaded
+pub Loads-wrote : (p : List ℕ) (a b c : Option Peer) → Unbegun a → Wrote a b p → Loads b c → OfLink (λ w. w.loaded ≡ Some p) c
+Loads-wrote p a b c u g l =
+    of-on (λ w. got_of w ≡ p) (λ w v. v.loaded ≡ Some (got_of w)) (λ w. w.loaded ≡ Some p) (λ w v e f. f ∙ ap Some e) b c
+    (of-on (λ w. got_of w ≡ []) (IsWritten p) (λ w. got_of w ≡ p) (λ w v e r. r.got ∙ ap (λ t. t ++ p) e) a b u g) l

@@ -182,25 +182,27 @@ untold-at-end a b c bytes n f g h e = heard-none a.peer b.peer bytes f.got (not-
 pub ruleset port_hears = (Hears-nothing, Hears-more, Misses-drop, Misses-end, untold-at-end)
 
 -- One reply, head and text.
-pub HearsHead-from : (a b : PortTold) (head_bytes : List ℕ) (n : ℕ) → Next a.peer → Hears a b head_bytes → IsHead n head_bytes → n < 2 ^ 64 → HearsHead a b n
-HearsHead-from a b head_bytes n t f e small = record {
+pub HearsHead-from : (a b : PortTold) (head_bytes : List ℕ) (n : ℕ) → Next a.peer → Hears a b head_bytes → IsHead n head_bytes → n < 2 ^ 64 → b.ends ≡ a.ends → HearsHead a b n
+HearsHead-from a b head_bytes n t f e small u = record {
   up = f.up;
   got = Heard-head a.peer b.peer head_bytes n f.got e;
   sized = Sized-from a.peer b.peer head_bytes n t f.got e small;
   kept = f.kept;
   heard = Appended-head a.heard b.heard head_bytes n f.heard e;
   log = f.log;
+  unended = u;
 }
 
 pub ruleset port_head = (HearsHead-from)
 
-pub HearsReply-from : (a b c : PortTold) (text behind : List ℕ) (n : ℕ) → HearsHead a b n → Hears b c text → length text ≡ n → HearsReply a c (take n (text ++ behind))
-HearsReply-from a b c text behind n f g e = record {
+pub HearsReply-from : (a b c : PortTold) (text behind : List ℕ) (n : ℕ) → HearsHead a b n → Hears b c text → length text ≡ n → c.ends ≡ b.ends → HearsReply a c (take n (text ++ behind))
+HearsReply-from a b c text behind n f g e u = record {
   up = g.up;
   got = Heard-text a.peer b.peer c.peer text behind n f.got g.got e;
   kept = Kept-trans a b c f.kept g.kept;
   heard = Appended-text a.heard b.heard c.heard text behind n f.heard g.heard e;
   log = g.log ∙ f.log;
+  unended = u ∙ f.unended;
 }
 
 pub ruleset port_text = (HearsReply-from)
@@ -212,6 +214,7 @@ HearsReply-read a b text r f e = record {
   kept = f.kept;
   heard = Appended-read a.heard b.heard text r f.heard e;
   log = f.log;
+  unended = f.unended;
 }
 
 pub ruleset port_reply = (HearsReply-read)

@@ -2,7 +2,6 @@
 use Rattle.std.specs.Prelude.{◌≡◌, ◌⊎◌, ℕ, ◌+◌, ◌*◌, ◌^◌, ◌<◌, ◌≤◌, Bool, true, false, ◌==◌, List, [], ◌∷◌, ◌++◌, length, flat_map, Option, Some, None, if◌then◌else◌, codes, is_none}
 use Rattle.std.specs.List.{list_all}
 use Rattle.fb_frame.specs.Framing.{frame}
-use Rattle.fb_frame.specs.Causes.{Rose}
 use Rattle.fb_message.specs.declared.reply.Reply.{Reply}
 use Rattle.fb_message.specs.declared.reply.Reply.TheVariants.{Okay, Fail, Info, Text, Load}
 use Rattle.fb_message.specs.ReplyText.{reply_bytes, reply_fits}
@@ -46,10 +45,6 @@ pub record IsFaulted (payload : List ℕ) (replies : List Reply) (w u : Wire) : 
 -- a command was sent and all of its replies heard
 abbrev pub IsAnswered : Type 0 → List ℕ → List Reply → Wire → Wire → Type 0
 IsAnswered broke payload replies w u = IsSaid payload replies w u ⊎ (broke × IsFaulted payload replies w u)
-
--- the same of a told connection, where a disk call fails only if the count rises
-abbrev pub Answered : ℕ → ℕ → Option Peer → Option Peer → List ℕ → List Reply → Type 0
-Answered before now a b payload replies = OnLink (IsAnswered (Rose before now) payload replies) a b
 
 -- Some replies are left to hear, of which the last is no line; with n lines before them fewer than 10,000.
 pub record IsListening (n : ℕ) (w : Wire) : Type 0 where

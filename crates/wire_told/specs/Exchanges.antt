@@ -12,7 +12,14 @@ use Rattle.wire_model.specs.Says.{Said, says}
 use Rattle.wire_model.specs.Wire.{Wire}
 use Rattle.wire_model.specs.Halts.{Halts}
 use Rattle.wire_model.specs.Replies.{IsNoLoad}
+use Rattle.wire_told.specs.Answered.{IsAnswered}
 use Rattle.wire_told.specs.Ports.{PortTold}
+
+-- A command was sent over a told connection and all of its replies heard; a disk call fails only where the
+-- count rises.
+abbrev pub Answered : PortTold → PortTold → List ℕ → List Reply → Type 0
+Answered old new payload replies =
+    OnLink (IsAnswered (Rose old.faults new.faults) payload replies) old.peer new.peer
 
 -- what the device of a connection says to a command
 abbrev pub said_to : CommandValue → Wire → Said

@@ -88,7 +88,7 @@ pub record Hears (old new : PortTold) (bytes : List ℕ) : Type 0 where
   pub heard : Appended old.heard new.heard bytes
   pub log : new.log ≡ old.log
 
--- The head of a reply of this length was heard, and the text of one is next.
+-- The head of a reply of this length was heard, and the text of one is next; no end was met.
 pub record HearsHead (old new : PortTold) (n : ℕ) : Type 0 where
   pub up : IsTrue new.up
   pub got : HeardHead old.peer new.peer n
@@ -96,14 +96,16 @@ pub record HearsHead (old new : PortTold) (n : ℕ) : Type 0 where
   pub kept : Kept old new
   pub heard : AppendedHead old.heard new.heard n
   pub log : new.log ≡ old.log
+  pub unended : new.ends ≡ old.ends
 
--- A whole reply was heard, and nothing was sent.
+-- A whole reply was heard, nothing was sent, and no end was met.
 pub record HearsReply (old new : PortTold) (reply : List ℕ) : Type 0 where
   pub up : IsTrue new.up
   pub got : HeardReply old.peer new.peer reply
   pub kept : Kept old new
   pub heard : AppendedReply old.heard new.heard reply
   pub log : new.log ≡ old.log
+  pub unended : new.ends ≡ old.ends
 
 -- fewer bytes than so many were appended to a told list
 pub record AppendedPart (most : ℕ) (a b : Option (List ℕ)) : Type 0 where
