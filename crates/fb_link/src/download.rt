@@ -42,5 +42,8 @@ pub fn send_chunk<P: Port>(port: &mut P, left: u32, bytes: &[u8]) -> Result<(), 
     ensures hung { OnErr result (HungUp (P.told port.old).peer (P.told port.new).peer) }
     ensures sound { OnErr result (Sound (P.told port.new).peer) }
 {
-    send_bytes(port, left, bytes)
+    match send_bytes(port, left, bytes) {
+        Ok(()) => Ok(()),
+        Err(fault) => Err(fault),
+    }
 }
