@@ -75,7 +75,8 @@ fn contains(found: &[ByteList], text: &[u8]) -> bool
 
 /// Adds a text that doesn't stand in the list yet.
 fn push_new(alloc: Global, found: &mut Items<ByteList>, text: &[u8]) -> Result<(), Memory>
-    ensures { OnOk result (found.new ≡ found.old ++ (if list_any (λ x. bytes_eq text.now x) found.old then [] else text.now ∷ [])) }
+    ensures { OnOk result (found.new ≡ found.old
+        ++ (if list_any (λ x. bytes_eq text.now x) found.old then [] else text.now ∷ [])) }
 {
     if contains(found.as_slice(), text) {
         return Ok(());

@@ -52,7 +52,8 @@ fn push_other(
     part: &Logical,
     entries: &mut Items<Logical>,
 ) -> Result<(), Memory>
-    ensures { OnOk result (entries.new ≡ entries.old ++ (if bytes_eq part.now.name name.now then [] else part.now ∷ [])) }
+    ensures { OnOk result (entries.new ≡ entries.old
+        ++ (if bytes_eq part.now.name name.now then [] else part.now ∷ [])) }
 {
     if part.name.bytes() == name {
         return Ok(());

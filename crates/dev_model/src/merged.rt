@@ -16,7 +16,13 @@ fn listed_entry(
     wipe: bool,
     part: &TablePartition,
 ) -> Result<Logical, Memory>
-    ensures { IfOk result (λ entry. entry ≡ record { name = part.now.name; attributes = part.now.attributes; group = part.now.group; bytes = kept_bytes part.now.name (kept dev.now wipe) }) }
+    ensures { IfOk result (λ entry.
+        entry ≡ record {
+          name = part.now.name;
+          attributes = part.now.attributes;
+          group = part.now.group;
+          bytes = kept_bytes part.now.name (kept dev.now wipe);
+        }) }
 {
     let bytes = copy_bytes(alloc, kept_bytes(dev, wipe, part.name.bytes()))?;
     Ok(Logical {
@@ -48,7 +54,8 @@ fn push_left_over(
     part: &Logical,
     entries: &mut Items<Logical>,
 ) -> Result<(), Memory>
-    ensures { OnOk result (entries.new ≡ entries.old ++ (if is_left_over tables.now wipe dev.now part.now then part.now ∷ [] else [])) }
+    ensures { OnOk result (entries.new ≡ entries.old
+        ++ (if is_left_over tables.now wipe dev.now part.now then part.now ∷ [] else [])) }
 {
     if is_left_over(tables, wipe, dev, part) {
         let entry = copy_entry(alloc, part)?;

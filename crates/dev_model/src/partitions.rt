@@ -86,7 +86,8 @@ pub fn bytes_of<'a>(dev: &'a Dev, name: &[u8]) -> Option<&'a [u8]>
 }
 
 fn physical_bytes<'a>(parts: &'a [Physical], name: &[u8]) -> Option<&'a [u8]>
-    ensures { option_map (λ bytes. bytes.now) result ≡ option_map (λ p. p.bytes) (find (λ p. bytes_eq p.name name.now) parts.now) }
+    ensures { option_map (λ bytes. bytes.now) result
+        ≡ option_map (λ p. p.bytes) (find (λ p. bytes_eq p.name name.now) parts.now) }
 {
     for part in parts {
         if part.name.bytes() == name {
@@ -97,7 +98,8 @@ fn physical_bytes<'a>(parts: &'a [Physical], name: &[u8]) -> Option<&'a [u8]>
 }
 
 fn logical_bytes<'a>(parts: &'a [Logical], name: &[u8]) -> Option<&'a [u8]>
-    ensures { option_map (λ bytes. bytes.now) result ≡ option_map (λ p. p.bytes) (find (λ p. bytes_eq p.name name.now) parts.now) }
+    ensures { option_map (λ bytes. bytes.now) result
+        ≡ option_map (λ p. p.bytes) (find (λ p. bytes_eq p.name name.now) parts.now) }
 {
     for part in parts {
         if part.name.bytes() == name {

@@ -25,7 +25,8 @@ pub fn flash_refusal(
     downloaded: Option<&[u8]>,
     name: &Name,
 ) -> Result<Option<Refusal>, Memory>
-    ensures { IfOk result (λ refusal. option_map text_of refusal ≡ flash_refusal dev.now (option_map (λ file. file.now) downloaded.entry) name.now) }
+    ensures { IfOk result (λ refusal. option_map text_of refusal
+        ≡ flash_refusal dev.now (option_map (λ file. file.now) downloaded.entry) name.now) }
 {
     if dev.locked {
         return Ok(Some(Refusal::Locked));
@@ -96,7 +97,8 @@ pub fn lock_refusal(dev: &Dev) -> Option<Refusal>
 /// Why there is no room for one more partition of so many bytes, None where there is.
 #[tactic(auto, using(crate::proofs::RoomLemmas::added_rooms))]
 fn added_refusal(dev: &Dev, name: &Name, size: u64) -> Option<Refusal>
-    ensures { option_map text_of result ≡ room_refusal dev.now (sizes_of dev.now.logical ++ created_size name.now size ∷ []) }
+    ensures { option_map text_of result ≡ room_refusal dev.now (sizes_of dev.now.logical
+        ++ created_size name.now size ∷ []) }
 {
     if !added_units_fit(dev, round_up(size)) {
         Some(Refusal::NotEnoughSpace)
@@ -142,7 +144,8 @@ pub fn delete_refusal(dev: &Dev, name: &Name) -> Option<Refusal>
 }
 
 fn resized_refusal(dev: &Dev, name: &Name, bytes: u128) -> Option<Refusal>
-    ensures { option_map text_of result ≡ room_refusal dev.now (resized name.now bytes (sizes_of dev.now.logical)) }
+    ensures { option_map text_of result ≡ room_refusal dev.now
+        (resized name.now bytes (sizes_of dev.now.logical)) }
 {
     if !resized_units_fit(dev, name.bytes(), bytes) {
         Some(Refusal::NotEnoughSpace)
@@ -171,7 +174,9 @@ pub fn update_refusal(
     name: &Name,
     wipe: bool,
 ) -> Option<Refusal>
-    ensures { (file : Option (List ℕ)) → is_some file ≡ downloaded → option_map text_of result ≡ update_refusal dev.now file (option_map (λ t. t.now) tables.entry) name.now wipe }
+    ensures { (file : Option (List ℕ)) → is_some file ≡ downloaded →
+        option_map text_of result
+        ≡ update_refusal dev.now file (option_map (λ t. t.now) tables.entry) name.now wipe }
 {
     if dev.locked {
         return Some(Refusal::Locked);

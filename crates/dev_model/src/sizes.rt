@@ -66,7 +66,8 @@ pub fn share(part: &Logical, group: &[u8]) -> u128
 
 /// The units that are left once the logical partition of the name has so many bytes.
 fn resized_units_left(dev: &Dev, name: &[u8], bytes: u128) -> Option<u128>
-    ensures { result ≡ less (units_of dev.now.unit (resized name.now bytes (sizes_of dev.now.logical))) dev.now.units }
+    ensures { result ≡ less (units_of dev.now.unit (resized name.now bytes (sizes_of dev.now.logical)))
+        dev.now.units }
 {
     let mut left = dev.units as u128;
     for part in dev.logical.as_slice() {
@@ -82,7 +83,8 @@ fn resized_group_left(
     name: &[u8],
     bytes: u128,
 ) -> Option<u128>
-    ensures { result ≡ less (group_bytes group.now.name (resized name.now bytes (sizes_of parts.now))) group.now.limit }
+    ensures { result ≡ less (group_bytes group.now.name (resized name.now bytes (sizes_of parts.now)))
+        group.now.limit }
 {
     let mut left = group.limit as u128;
     for part in parts {
@@ -115,13 +117,15 @@ fn group_left(parts: &[Logical], group: &TableGroup) -> Option<u128>
 
 /// Whether there are units enough once the logical partition of the name has so many bytes.
 pub fn resized_units_fit(dev: &Dev, name: &[u8], bytes: u128) -> bool
-    ensures { result ≡ units_fit dev.now.unit dev.now.units (resized name.now bytes (sizes_of dev.now.logical)) }
+    ensures { result ≡ units_fit dev.now.unit dev.now.units
+        (resized name.now bytes (sizes_of dev.now.logical)) }
 {
     resized_units_left(dev, name, bytes).is_some()
 }
 
 fn resized_group_fits(dev: &Dev, group: &TableGroup, name: &[u8], bytes: u128) -> bool
-    ensures { result ≡ (group.now.limit == 0 || nat_le (group_bytes group.now.name (resized name.now bytes (sizes_of dev.now.logical))) group.now.limit) }
+    ensures { result ≡ (group.now.limit == 0 || nat_le
+        (group_bytes group.now.name (resized name.now bytes (sizes_of dev.now.logical))) group.now.limit) }
 {
     group.limit == 0 || resized_group_left(dev.logical.as_slice(), group, name, bytes).is_some()
 }
@@ -138,7 +142,8 @@ pub fn resized_groups_fit(dev: &Dev, name: &[u8], bytes: u128) -> bool
 
 /// Whether there are units enough for one more partition of so many bytes.
 pub fn added_units_fit(dev: &Dev, bytes: u128) -> bool
-    ensures { result ≡ nat_le (units_of dev.now.unit (sizes_of dev.now.logical) + units_for dev.now.unit bytes) dev.now.units }
+    ensures { result ≡ nat_le (units_of dev.now.unit
+        (sizes_of dev.now.logical) + units_for dev.now.unit bytes) dev.now.units }
 {
     match units_left(dev) {
         None => false,
@@ -147,7 +152,9 @@ pub fn added_units_fit(dev: &Dev, bytes: u128) -> bool
 }
 
 fn added_group_fits(dev: &Dev, group: &TableGroup, into: &[u8], bytes: u128) -> bool
-    ensures { result ≡ (group.now.limit == 0 || nat_le (group_bytes group.now.name (sizes_of dev.now.logical) + (if bytes_eq into.now group.now.name then bytes else 0)) group.now.limit) }
+    ensures { result ≡ (group.now.limit == 0 || nat_le
+        (group_bytes group.now.name (sizes_of dev.now.logical) + (if bytes_eq into.now group.now.name
+        then bytes else 0)) group.now.limit) }
 {
     if group.limit == 0 {
         return true;
@@ -161,7 +168,9 @@ fn added_group_fits(dev: &Dev, group: &TableGroup, into: &[u8], bytes: u128) -> 
 
 /// Whether each group's limit holds with one more partition of so many bytes in the group of the name.
 pub fn added_groups_fit(dev: &Dev, into: &[u8], bytes: u128) -> bool
-    ensures { result ≡ list_all (λ g. g.limit == 0 || nat_le (group_bytes g.name (sizes_of dev.now.logical) + (if bytes_eq into.now g.name then bytes else 0)) g.limit) dev.now.groups }
+    ensures { result ≡ list_all (λ g. g.limit == 0
+        || nat_le (group_bytes g.name (sizes_of dev.now.logical) + (if bytes_eq into.now g.name then bytes
+        else 0)) g.limit) dev.now.groups }
 {
     let groups = dev.groups.as_slice();
     groups

@@ -43,7 +43,8 @@ fn is_sparse(file: &[u8]) -> bool
 
 fn versions_are_good(file: &[u8]) -> bool
     requires { 28 ≤ length file.now }
-    ensures { result ≡ (u16_at 4 file.now == 1 && u16_at 6 file.now == 0 && u16_at 8 file.now == 28 && u16_at 10 file.now == 12) }
+    ensures { result ≡ (u16_at 4 file.now == 1 && u16_at 6 file.now == 0 && u16_at 8 file.now == 28
+        && u16_at 10 file.now == 12) }
 {
     u16_at(4, file) == 1 && u16_at(6, file) == 0 && u16_at(8, file) == 28 && u16_at(10, file) == 12
 }

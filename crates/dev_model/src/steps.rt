@@ -76,7 +76,8 @@ pub fn erased(alloc: Global, name: &Name, dev: &Dev) -> Result<Dev, Memory>
 
 /// The device with the logical partition of the name of this size, rounded up to a block.
 pub fn resized(alloc: Global, name: &Name, size: u64, dev: &Dev) -> Result<Dev, Memory>
-    ensures { IfOk result (λ after. after ≡ with_logical_bytes name.now (cut_or_padded (round_up size)) dev.now) }
+    ensures { IfOk result (λ after. after ≡ with_logical_bytes name.now
+        (cut_or_padded (round_up size)) dev.now) }
 {
     let change = Change::Resize(round_up(size));
     let mut after = copy_dev(alloc, dev)?;

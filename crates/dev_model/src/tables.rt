@@ -80,7 +80,8 @@ fn has_group(tables: &Tables, part: &Logical) -> bool
 
 /// Whether a kept partition that the table doesn't list has a group that it lacks.
 fn lacks_group(tables: &Tables, wipe: bool, dev: &Dev) -> bool
-    ensures { result ≡ list_any (λ p. not (is_group tables.now.groups p.group)) (left_over tables.now (kept dev.now wipe)) }
+    ensures { result ≡ list_any (λ p. not (is_group tables.now.groups p.group))
+        (left_over tables.now (kept dev.now wipe)) }
 {
     for part in dev.logical.as_slice() {
         if is_left_over(tables, wipe, dev, part) && !has_group(tables, part) {
@@ -92,7 +93,8 @@ fn lacks_group(tables: &Tables, wipe: bool, dev: &Dev) -> bool
 
 /// What a listed partition takes of a group's limit.
 fn listed_share(dev: &Dev, wipe: bool, part: &TablePartition, group: &[u8]) -> u128
-    ensures { result ≡ (if bytes_eq part.now.group group.now then length (kept_bytes part.now.name (kept dev.now wipe)) else 0) }
+    ensures { result ≡ (if bytes_eq part.now.group group.now
+        then length (kept_bytes part.now.name (kept dev.now wipe)) else 0) }
 {
     if part.group.bytes() == group {
         kept_bytes(dev, wipe, part.name.bytes()).len() as u128
@@ -103,7 +105,8 @@ fn listed_share(dev: &Dev, wipe: bool, part: &TablePartition, group: &[u8]) -> u
 
 /// What the listed partitions leave of a group's limit.
 fn listed_left(tables: &Tables, wipe: bool, dev: &Dev, group: &TableGroup) -> Option<u128>
-    ensures { result ≡ less (group_bytes group.now.name (sizes_of (listed tables.now (kept dev.now wipe)))) group.now.limit }
+    ensures { result ≡ less (group_bytes group.now.name (sizes_of (listed tables.now (kept dev.now wipe))))
+        group.now.limit }
 {
     let mut left = group.limit as u128;
     for part in tables.partitions.as_slice() {
@@ -120,7 +123,8 @@ fn left_over_left(
     group: &TableGroup,
     room: u128,
 ) -> Option<u128>
-    ensures { result ≡ less (group_bytes group.now.name (sizes_of (left_over tables.now (kept dev.now wipe)))) room }
+    ensures { result ≡ less (group_bytes group.now.name
+        (sizes_of (left_over tables.now (kept dev.now wipe)))) room }
 {
     let mut left = room;
     for part in dev.logical.as_slice() {
@@ -132,7 +136,8 @@ fn left_over_left(
 }
 
 fn merged_group_fits(tables: &Tables, wipe: bool, dev: &Dev, group: &TableGroup) -> bool
-    ensures { result ≡ (group.now.limit == 0 || nat_le (group_bytes group.now.name (sizes_of (merged tables.now wipe dev.now))) group.now.limit) }
+    ensures { result ≡ (group.now.limit == 0 || nat_le
+        (group_bytes group.now.name (sizes_of (merged tables.now wipe dev.now))) group.now.limit) }
 {
     if group.limit == 0 {
         return true;
@@ -160,7 +165,8 @@ fn is_taken(dev: &Dev, part: &TablePartition) -> bool
 }
 
 fn has_taken_name(tables: &Tables, dev: &Dev) -> bool
-    ensures { result ≡ list_any (λ p. is_physical dev.now p.name || is_super dev.now p.name) tables.now.partitions }
+    ensures { result ≡ list_any (λ p. is_physical dev.now p.name
+        || is_super dev.now p.name) tables.now.partitions }
 {
     tables
         .partitions
@@ -170,13 +176,16 @@ fn has_taken_name(tables: &Tables, dev: &Dev) -> bool
 }
 
 fn has_other_geometry(tables: &Tables, dev: &Dev) -> bool
-    ensures { result ≡ not (tables.now.geometry.max_size == dev.now.geometry.max_size && tables.now.geometry.slots == dev.now.geometry.slots) }
+    ensures { result ≡ not (tables.now.geometry.max_size == dev.now.geometry.max_size
+        && tables.now.geometry.slots == dev.now.geometry.slots) }
 {
     tables.geometry != dev.geometry
 }
 
 fn is_misfit(tables: &Tables, dev: &Dev) -> bool
-    ensures { result ≡ (not (is_super dev.now tables.now.device.name) || not (tables.now.device.size == dev.now.super_size) || tables.now.device.alignment == 0 || not (dev.now.unit % tables.now.device.alignment == 0) || not (tables.now.device.offset == 0)) }
+    ensures { result ≡ (not (is_super dev.now tables.now.device.name)
+        || not (tables.now.device.size == dev.now.super_size) || tables.now.device.alignment == 0
+        || not (dev.now.unit % tables.now.device.alignment == 0) || not (tables.now.device.offset == 0)) }
 {
     !is_super(dev, tables.device.name.bytes())
         || tables.device.size != dev.super_size

@@ -78,7 +78,9 @@ pub(crate) fn push_row_of(
 }
 
 fn push_labels(alloc: Global, rows: &mut Items<Row>, dev: &Dev) -> Result<(), Memory>
-    ensures { OnOk result (rows.new ≡ rows.old ++ (codes "version", codes "0.4") ∷ (codes "product", dev.now.product) ∷ (codes "serialno", dev.now.serial) ∷ (codes "secure", yes_or_no dev.now.locked) ∷ (codes "unlocked", yes_or_no (not dev.now.locked)) ∷ []) }
+    ensures { OnOk result (rows.new ≡ rows.old ++ (codes "version", codes "0.4") ∷
+        (codes "product", dev.now.product) ∷ (codes "serialno", dev.now.serial) ∷
+        (codes "secure", yes_or_no dev.now.locked) ∷ (codes "unlocked", yes_or_no (not dev.now.locked)) ∷ []) }
 {
     push_row(alloc, rows, b"version".as_slice(), b"0.4".as_slice())?;
     push_row(alloc, rows, b"product".as_slice(), dev.product.as_slice())?;
@@ -89,7 +91,8 @@ fn push_labels(alloc: Global, rows: &mut Items<Row>, dev: &Dev) -> Result<(), Me
 }
 
 fn push_current_slot(alloc: Global, rows: &mut Items<Row>, dev: &Dev) -> Result<(), Memory>
-    ensures { OnOk result (rows.new ≡ rows.old ++ with_slots_only dev.now ((codes "current-slot", letter dev.now.active ∷ []) ∷ [])) }
+    ensures { OnOk result (rows.new ≡ rows.old ++ with_slots_only dev.now
+        ((codes "current-slot", letter dev.now.active ∷ []) ∷ [])) }
 {
     if has_slots(dev) {
         push_row(
@@ -113,7 +116,12 @@ fn slot_count(dev: &Dev) -> &'static [u8]
 }
 
 fn push_limits(alloc: Global, rows: &mut Items<Row>, dev: &Dev) -> Result<(), Memory>
-    ensures { OnOk result (rows.new ≡ rows.old ++ (codes "slot-count", if has_slots dev.now then codes "2" else codes "0") ∷ (codes "max-download-size", size_text dev.now.max) ∷ (codes "is-userspace", yes_or_no (is_userspace dev.now.mode)) ∷ []) }
+    ensures { OnOk result (rows.new ≡ rows.old ++ (
+      codes "slot-count",
+      if has_slots dev.now then codes "2"
+          else codes "0",
+    ) ∷ (codes "max-download-size", size_text dev.now.max) ∷
+        (codes "is-userspace", yes_or_no (is_userspace dev.now.mode)) ∷ []) }
 {
     let max = size_text(alloc, dev.max as u64)?;
     push_row(alloc, rows, b"slot-count".as_slice(), slot_count(dev))?;
@@ -197,7 +205,8 @@ fn push_slot(
 }
 
 fn push_slots(alloc: Global, rows: &mut Items<Row>, dev: &Dev) -> Result<(), Memory>
-    ensures { OnOk result (rows.new ≡ rows.old ++ with_slots_only dev.now (slot_rows A dev.now.flags.a ++ slot_rows B dev.now.flags.b)) }
+    ensures { OnOk result (rows.new ≡ rows.old ++ with_slots_only dev.now (slot_rows A dev.now.flags.a
+        ++ slot_rows B dev.now.flags.b)) }
 {
     if has_slots(dev) {
         push_slot(alloc, rows, Slot::A, dev.flags.a)?;
@@ -243,7 +252,8 @@ fn push_partition(
 
 #[tactic(auto, using(crate::proofs::RowLemmas::row_turns))]
 fn push_physical(alloc: Global, rows: &mut Items<Row>, parts: &[Physical]) -> Result<(), Memory>
-    ensures { OnOk result (rows.new ≡ rows.old ++ flat_map (λ p. partition_rows false p.name p.bytes) parts.now) }
+    ensures { OnOk result (rows.new ≡ rows.old
+        ++ flat_map (λ p. partition_rows false p.name p.bytes) parts.now) }
 {
     for part in parts {
         push_partition(alloc, rows, false, part.name.bytes(), part.bytes.as_slice())?;
@@ -253,7 +263,8 @@ fn push_physical(alloc: Global, rows: &mut Items<Row>, parts: &[Physical]) -> Re
 
 #[tactic(auto, using(crate::proofs::RowLemmas::row_turns))]
 fn push_logical(alloc: Global, rows: &mut Items<Row>, parts: &[Logical]) -> Result<(), Memory>
-    ensures { OnOk result (rows.new ≡ rows.old ++ flat_map (λ p. partition_rows true p.name p.bytes) parts.now) }
+    ensures { OnOk result (rows.new ≡ rows.old
+        ++ flat_map (λ p. partition_rows true p.name p.bytes) parts.now) }
 {
     for part in parts {
         push_partition(alloc, rows, true, part.name.bytes(), part.bytes.as_slice())?;
@@ -293,7 +304,8 @@ fn is_partition_of(alloc: Global, dev: &Dev, name: &[u8], slot: Slot) -> Result<
 }
 
 fn is_slotted(alloc: Global, dev: &Dev, name: &[u8]) -> Result<bool, Memory>
-    ensures { IfOk result (λ slotted. slotted ≡ (has_slots dev.now && (is_partition dev.now (name.now ++ suffix A) || is_partition dev.now (name.now ++ suffix B)))) }
+    ensures { IfOk result (λ slotted. slotted ≡ (has_slots dev.now
+        && (is_partition dev.now (name.now ++ suffix A) || is_partition dev.now (name.now ++ suffix B)))) }
 {
     let of_a = is_partition_of(alloc, dev, name, Slot::A)?;
     let of_b = is_partition_of(alloc, dev, name, Slot::B)?;

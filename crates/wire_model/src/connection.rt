@@ -105,7 +105,8 @@ fn received(
 
 /// What follows from a command's payload.
 fn answered(alloc: Global, connection: Connection, payload: &[u8]) -> Result<Connection, Memory>
-    ensures { IfOk result (λ next. wire_of next ≡ answered (says connection.device connection.loaded (command_of payload.now)) (wire_of connection)) }
+    ensures { IfOk result (λ next. wire_of next ≡ answered
+        (says connection.device connection.loaded (command_of payload.now)) (wire_of connection)) }
 {
     let command = read_command(payload);
     let answer = says(alloc, &connection.device, &connection.loaded, &command)?;
@@ -121,7 +122,8 @@ fn answered(alloc: Global, connection: Connection, payload: &[u8]) -> Result<Con
 
 /// What follows from a payload, which is a command or data.
 fn paid(alloc: Global, connection: Connection, payload: &[u8]) -> Result<Connection, Memory>
-    ensures { IfOk result (λ next. wire_of next ≡ paid (phase_of connection.phase) payload.now (wire_of connection)) }
+    ensures { IfOk result (λ next. wire_of next ≡ paid (phase_of connection.phase) payload.now
+        (wire_of connection)) }
 {
     match &connection.phase {
         Phase::Shake => Ok(connection),

@@ -43,7 +43,8 @@ fn first_frame(most: u64, bytes: &[u8]) -> Option<(Item<'_>, &[u8])>
 /// The item at the front of the bytes in this phase, and what follows it, None where none stands there
 /// whole.
 pub fn front<'a>(phase: &Phase, bytes: &'a [u8]) -> Option<(Item<'a>, &'a [u8])>
-    ensures { option_map (λ found. (item_of found.0, found.1.now)) result ≡ front (phase_of phase.now) bytes.now }
+    ensures { option_map (λ found. (item_of found.0, found.1.now)) result
+        ≡ front (phase_of phase.now) bytes.now }
 {
     match phase {
         Phase::Shake => first_four(bytes),

@@ -73,7 +73,8 @@ fn info(alloc: Global, row: &Row) -> Result<ByteList, Memory>
 }
 
 fn push_info(alloc: Global, bytes: &mut Vec<u8>, row: &Row) -> Result<(), Memory>
-    ensures { OnOk result (bytes.new.items ≡ bytes.old.items ++ frames_of (Info (row.now.0 ++ 58 ∷ row.now.1) ∷ [])) }
+    ensures { OnOk result (bytes.new.items ≡ bytes.old.items
+        ++ frames_of (Info (row.now.0 ++ 58 ∷ row.now.1) ∷ [])) }
 {
     let more = info(alloc, row)?;
     bytes
@@ -84,7 +85,8 @@ fn push_info(alloc: Global, bytes: &mut Vec<u8>, row: &Row) -> Result<(), Memory
 
 /// The frames of one INFO for each row.
 fn infos(alloc: Global, rows: &[Row]) -> Result<Vec<u8>, Memory>
-    ensures { IfOk result (λ bytes. bytes.items ≡ frames_of (map (λ row. Info (row.0 ++ 58 ∷ row.1)) rows.now)) }
+    ensures { IfOk result (λ bytes. bytes.items
+        ≡ frames_of (map (λ row. Info (row.0 ++ 58 ∷ row.1)) rows.now)) }
 {
     let mut bytes = Vec::new(alloc);
     for row in rows {

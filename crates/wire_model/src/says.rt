@@ -100,7 +100,8 @@ fn refused(
     dev: &Dev,
     loaded: &Option<ByteList>,
 ) -> Result<Answer, Memory>
-    ensures { IfOk result (λ answer. answer ≡ answer_of (answers (Fail (text_of refusal) ∷ []) dev.now loaded.now)) }
+    ensures { IfOk result (λ answer. answer ≡ answer_of
+        (answers (Fail (text_of refusal) ∷ []) dev.now loaded.now)) }
 {
     let answer = failed(alloc, refusal.text(), dev, loaded)?;
     Ok(answer)
@@ -124,7 +125,8 @@ fn tell_all(alloc: Global, dev: &Dev, loaded: &Option<ByteList>) -> Result<Answe
 
 /// A variable's text, where there is one.
 fn tell(alloc: Global, dev: &Dev, loaded: &Option<ByteList>, name: &[u8]) -> Result<Answer, Memory>
-    ensures { IfOk result (λ answer. answer ≡ answer_of (answers (tells (value dev.now name.now)) dev.now loaded.now)) }
+    ensures { IfOk result (λ answer. answer ≡ answer_of
+        (answers (tells (value dev.now name.now)) dev.now loaded.now)) }
 {
     match value(alloc, dev, name)? {
         None => {
@@ -369,7 +371,8 @@ fn update_super(
     name: &Name,
     wipe: bool,
 ) -> Result<Answer, Memory>
-    ensures { IfOk result (λ answer. answer ≡ answer_of (says dev.now loaded.now (UpdateSuper name.now wipe))) }
+    ensures { IfOk result (λ answer. answer ≡ answer_of
+        (says dev.now loaded.now (UpdateSuper name.now wipe))) }
 {
     let tables = loaded_tables(alloc, loaded)?;
     if let Some(refusal) = tables_refusal(dev, loaded, &tables, name, wipe) {
@@ -435,7 +438,8 @@ pub fn says(
     loaded: &Option<ByteList>,
     command: &Command<'_>,
 ) -> Result<Answer, Memory>
-    ensures { IfOk result (λ answer. answer ≡ answer_of (says dev.now loaded.now (command_value command.now))) }
+    ensures { IfOk result (λ answer. answer ≡ answer_of
+        (says dev.now loaded.now (command_value command.now))) }
 {
     match command {
         Command::GetVar(name) => get_var(alloc, dev, loaded, name),

@@ -14,7 +14,8 @@ const LIMIT: usize = 0x4000_0000_0000_0000;
 
 /// The connection when each item of the bytes was heard.
 fn settled(alloc: Global, connection: Connection, bytes: &[u8]) -> Result<Connection, Memory>
-    ensures { IfOk result (λ last. served_of (wire_of last) ≡ served_of (settled (length bytes.now) (wire_at bytes.now (length bytes.now) connection))) }
+    ensures { IfOk result (λ last. served_of (wire_of last)
+        ≡ served_of (settled (length bytes.now) (wire_at bytes.now (length bytes.now) connection))) }
 {
     let mut now = connection;
     let mut rest = bytes;
