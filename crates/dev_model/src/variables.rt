@@ -78,9 +78,9 @@ pub(crate) fn push_row_of(
 }
 
 fn push_labels(alloc: Global, rows: &mut Items<Row>, dev: &Dev) -> Result<(), Memory>
-    ensures { OnOk result (rows.new ≡ rows.old ++ (codes "version", codes "0.4") ∷
-        (codes "product", dev.now.product) ∷ (codes "serialno", dev.now.serial) ∷
-        (codes "secure", yes_or_no dev.now.locked) ∷ (codes "unlocked", yes_or_no (not dev.now.locked)) ∷ []) }
+    ensures { OnOk result (rows.new ≡ rows.old ++ (codes "version", codes "0.4")
+        ∷ (codes "product", dev.now.product) ∷ (codes "serialno", dev.now.serial)
+        ∷ (codes "secure", yes_or_no dev.now.locked) ∷ (codes "unlocked", yes_or_no (not dev.now.locked)) ∷ []) }
 {
     push_row(alloc, rows, b"version".as_slice(), b"0.4".as_slice())?;
     push_row(alloc, rows, b"product".as_slice(), dev.product.as_slice())?;
@@ -116,12 +116,10 @@ fn slot_count(dev: &Dev) -> &'static [u8]
 }
 
 fn push_limits(alloc: Global, rows: &mut Items<Row>, dev: &Dev) -> Result<(), Memory>
-    ensures { OnOk result (rows.new ≡ rows.old ++ (
-      codes "slot-count",
-      if has_slots dev.now then codes "2"
-          else codes "0",
-    ) ∷ (codes "max-download-size", size_text dev.now.max) ∷
-        (codes "is-userspace", yes_or_no (is_userspace dev.now.mode)) ∷ []) }
+    ensures { OnOk result (rows.new ≡ rows.old
+        ++ (codes "slot-count", if has_slots dev.now then codes "2" else codes "0")
+        ∷ (codes "max-download-size", size_text dev.now.max)
+        ∷ (codes "is-userspace", yes_or_no (is_userspace dev.now.mode)) ∷ []) }
 {
     let max = size_text(alloc, dev.max as u64)?;
     push_row(alloc, rows, b"slot-count".as_slice(), slot_count(dev))?;
