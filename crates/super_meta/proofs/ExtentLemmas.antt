@@ -1,5 +1,5 @@
 -- Extents in the subject's own words: which sectors they have, and whose they are.
-use Rattle.std.proofs.Common.{◌≡◌, ℕ, zero, suc, ◌+◌, ◌≤◌, ◌<◌, Bool, true, false, cond, List, [], ◌∷◌, ◌++◌, length, take, drop, Some, None, refl, sym, ap, ◌∙◌, arith, lit≤}
+use Rattle.std.proofs.Common.{◌≡◌, ℕ, zero, suc, ◌+◌, ◌≤◌, Bool, true, false, cond, List, [], ◌∷◌, ◌++◌, length, take, drop, Some, refl, sym, ap, ◌∙◌, arith, lit≤}
 use Rattle.std.specs.Prelude.{◌&&◌, ◌||◌, not, nat_lt, nat_le, ◌==◌, max, min, sum_by, count_by, slice_get, flat_map}
 use Rattle.std.specs.List.{list_any}
 use Rattle.std.proofs.lemmas.Bool.Decides.{nat_tests}
@@ -7,7 +7,7 @@ use Rattle.std.proofs.lemmas.List.{drop_all, drop-drop, take-append-drop}
 use Rattle.std.proofs.lemmas.List.Sums.{sum_by-cons}
 use Rattle.super_meta.specs.declared.table.Extent.{Extent}
 use Rattle.super_meta.specs.declared.table.Partition.{Partition}
-use Rattle.super_meta.specs.Contents.{Content, has_sector, shares, are_apart, take_in_turn, are_indexed, extents_of}
+use Rattle.super_meta.specs.Contents.{has_sector, shares, are_apart, take_in_turn, are_indexed}
 use Rattle.super_meta.specs.Laws.{SectorsOnce, IsInTurn, TakenInTurn, ExtentsJoined}
 use Rattle.super_meta.proofs.NameLemmas.{both, bothly}
 

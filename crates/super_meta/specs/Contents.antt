@@ -1,5 +1,5 @@
 -- What a table says, and when it is sound (liblp metadata_format.h).
-use Rattle.std.specs.Prelude.{ℕ, ◌+◌, ◌*◌, ◌/◌, ◌%◌, ◌^◌, Bool, true, not, ◌&&◌, ◌||◌, List, [], ◌∷◌, map, length, take, drop, nat_lt, nat_le, max, min, ◌==◌, bytes_eq, if◌then◌else◌}
+use Rattle.std.specs.Prelude.{ℕ, ◌+◌, ◌*◌, ◌^◌, Bool, true, not, ◌&&◌, List, [], ◌∷◌, map, length, take, drop, nat_lt, nat_le, max, min, ◌==◌}
 use Rattle.std.specs.List.{list_all, list_any}
 use Rattle.fb_frame.specs.Distinct.{are_distinct}
 use Rattle.fb_frame.specs.Versions.{are_attributes, is_version}

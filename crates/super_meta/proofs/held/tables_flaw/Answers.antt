@@ -1,4 +1,4 @@
-use Rattle.std.proofs.Common.{◌≡◌, Some, Err, ap, sym, ◌∙◌}
+use Rattle.std.proofs.Common.{Err, ap, sym, ◌∙◌}
 use Rattle.super_meta.specs.Held.{flaw_read, tables_flaw}
 use Rattle.super_meta.proofs.held.tables_flaw.Goals as goal
 
