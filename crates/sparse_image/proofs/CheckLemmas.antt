@@ -11,8 +11,11 @@ use Rattle.sparse_image.proofs.WalkLemmas.{walk-agrees, image-none}
 use Rattle.sparse_image.specs.declared.walk.Header.{Header}
 use Rattle.sparse_image.specs.declared.errors.SparseError.{SparseError}
 use Rattle.sparse_image.specs.declared.chunk.Chunk.{Chunk}
+use Rattle.sparse_image.specs.declared.chunk.Content.{Content}
+use Rattle.sparse_image.specs.declared.chunk.Content.TheVariants.{Raw, Fill, DontCare}
 use Rattle.sparse_image.specs.Outside.{IsRead}
-use Rattle.sparse_image.specs.Walks.{Kept, checked, sparse_checked, raw_checked, kept_cells, flaw, front_of, header_of, walked, kept, prepend, chunk_len, end_flaw, LiesIn, AreWell, ◌then_on◌}
+use Rattle.sparse_image.proofs.RunLemmas.{spent}
+use Rattle.sparse_image.specs.Walks.{Kept, checked, sparse_checked, raw_checked, kept_cells, flaw, front_of, header_of, walked, kept, prepend, chunk_len, content_len, end_flaw, LiesIn, AreWell, ◌then_on◌}
 
 -- a part of the first bytes
 part-same : (n k m : ℕ) (xs : List ℕ) → k + n ≤ m → take n (drop k (take m xs)) ≡ take n (drop k xs)
@@ -152,6 +155,26 @@ well-next block len total left now chunks chunk w l h i e =
 
 pub well-none : (block len total : ℕ) → AreWell block len (total - total) []
 well-none block len total = record { total = omega arith; some = All-nil _; lies = All-nil _ }
+
+-- how far the walk is at most
+content-short : (n : ℕ) (content : Content) → content_len n content ≤ n + 4
+content-short n (Raw place) = omega arith
+content-short n (Fill pattern) = omega arith
+content-short n DontCare = omega arith
+
+pub most-next : (block total left now place count : ℕ) (chunk : Chunk) → left ≤ total → chunk.blocks ≤ left → now ≡ left - chunk.blocks → place ≤ 28 + (total - left) * block + 16 * count →
+    place + chunk_len block chunk ≤ 28 + (total - now) * block + 16 * (count + 1)
+most-next block total left now place count chunk i d e h =
+    omega (arith, h, spent (total - now) (total - left) chunk.blocks block (omega arith), content-short (chunk.blocks * block) chunk.content)
+
+ended-walk : (blocks place left : ℕ) → end_flaw blocks place left ≡ None → (blocks ≡ 0) × (left ≡ 0)
+ended-walk blocks place left h = (grind (arith, nat_tests), grind (arith, nat_tests))
+
+pub most-ends : (block total left place len count : ℕ) → place ≤ len → end_flaw left place (len - place) ≡ None → place ≤ 28 + (total - left) * block + 16 * count → len ≤ 28 + total * block + 16 * count
+most-ends block total left place len count i h m =
+    let e = ended-walk left place (len - place) h in
+    let n : total - left ≡ total = omega (arith, e.0) in
+    omega (arith, i, e.1, m, ap (λ (x : ℕ). x * block) n)
 
 pub kept-short : (chunk : Chunk) → length (kept chunk []) ≤ 1
 kept-short chunk = ⊎_elim (λ h. rw h.0 (omega arith)) (λ h. rw h.0 (omega arith)) (eqb_tells chunk.blocks 0)

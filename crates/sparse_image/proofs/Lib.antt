@@ -18,3 +18,5 @@ pub mod SplitLemmas
 pub mod PaddedLemmas
 pub mod WriteLemmas
 pub mod PartLemmas
+pub mod MostLemmas
+pub mod WindowLemmas

@@ -188,8 +188,8 @@ put-from file kept end front (last ∷ places) first old q e r f l =
     let s = spent last first (last - first) block (omega (arith, r.0)) in
     let below = mul-le-mul_right block r.1 in
     let same : piece_cells kept file first last ≡ own =
-        sym (ap (λ (xs : List Cell). replicate (first * block) Skip ++ (xs ++ replicate ((kept.blocks - last) * block) Skip))
-        (ap (λ (xs : List Cell). take ((last - first) * block) (drop (first * block) xs)) q ∙ middle-of (first * block) ((last - first) * block) (end * block) (kept_cells kept file) (omega (arith, s, below)))) in
+    sym (ap (λ (xs : List Cell). replicate (first * block) Skip ++ (xs ++ replicate ((kept.blocks - last) * block) Skip))
+    (ap (λ (xs : List Cell). take ((last - first) * block) (drop (first * block) xs)) q ∙ middle-of (first * block) ((last - first) * block) (end * block) (kept_cells kept file) (omega (arith, s, below)))) in
     ap (λ (xs : List Cell). put_pieces kept file last places (over xs old)) same
     ∙ put-from file kept end front places last (over own old) q e r.2 r.1 (omega (arith, over_length own old, l))
     ∙ middle-put (first * block) ((last - first) * block) (last * block) ((kept.blocks - last) * block) front old (sym s) (omega (arith, e, below)) (omega (arith, e, l))

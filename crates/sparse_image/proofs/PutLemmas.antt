@@ -105,7 +105,7 @@ front-given (run ∷ runs) left now old (next, (gives, more)) h =
     let same = over_length (replicate (run_at run) Skip ++ own) old in
     let count : now.at - left.at ≡ gap + (length own + (now.at - next.at)) = omega (arith, gives.at, gives.later, after) in
     let front : replicate gap Skip ++ (own ++ more_cells) ≡ take (now.at - left.at) left.cells =
-        sym (ap (λ (xs : List Cell). take (now.at - left.at) xs) gives.cells ∙ run-take gap (now.at - left.at) (now.at - next.at) own next.cells count) in
+    sym (ap (λ (xs : List Cell). take (now.at - left.at) xs) gives.cells ∙ run-take gap (now.at - left.at) (now.at - next.at) own next.cells count) in
     front-given runs next now (over (replicate (run_at run) Skip ++ own) old) more (omega (arith, same, long))
     ∙ run-place left.at gap (run_at run) next.at own more_cells old (omega (arith, gives.later)) gives.at n
     ∙ ap (λ (xs : List Cell). take left.at old ++ over xs (drop left.at old)) front

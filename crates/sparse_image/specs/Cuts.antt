@@ -1,11 +1,12 @@
 -- Cutting an image into pieces: files that a device with a small download buffer takes one by one.
-use Rattle.std.specs.Prelude.{◌≡◌, ◌≤◌, ◌<◌, ℕ, ◌-◌, ◌*◌, ◌^◌, ◌⊎◌, Bool, true, false, List, [], ◌∷◌, length, nat_le, Option, Some, None, unwrap_or, if◌then◌else◌}
-use Rattle.std.specs.List.{All}
+use Rattle.std.specs.Prelude.{◌≡◌, ◌≤◌, ◌<◌, ℕ, ◌+◌, ◌-◌, ◌*◌, ◌^◌, ◌⊎◌, Bool, true, false, List, [], ◌∷◌, length, nat_le, ◌==◌, Option, Some, None, IfSome, Ok, unwrap_or, if◌then◌else◌}
+use Rattle.std.specs.List.{All, sum_by}
 use Rattle.dev_model.specs.Images.{image, over}
 use Rattle.dev_model.specs.declared.cells.Cell.{Cell}
 use Rattle.sparse_image.specs.declared.chunk.Chunk.{Chunk}
 use Rattle.sparse_image.specs.declared.rest.Rest.{Rest}
-use Rattle.sparse_image.specs.Walks.{Kept, IsKept, kept_cells, source_of, LiesIn}
+use Rattle.sparse_image.specs.Walks.{Kept, IsKept, checked, kept_cells, source_of, LiesIn}
+use Rattle.sparse_image.specs.Puts.{Puts, PutsInPart}
 use Rattle.sparse_image.specs.Pieces.{behind_blocks, piece_chunks, piece_file, piece_cells, sparse_len, whole_len, EndsAt, Fits}
 
 -- what is left to be cut into pieces of at most so many bytes: an image's blocks from a first one on
@@ -55,6 +56,18 @@ Cuts before None now = (before.first ≡ before.kept.blocks) × (now ≡ before)
 abbrev pub AreCut : Cutting → List Part → Type 0
 AreCut cutting [] = (now : Cutting) × Cuts cutting None now
 AreCut cutting (part ∷ parts) = (now : Cutting) × (Cuts cutting (Some part) now × AreCut now parts)
+
+-- the most bytes that chunks take in pieces, except what each piece has of its own
+abbrev pub chunks_most : ℕ → List Chunk → ℕ
+chunks_most block chunks = sum_by (λ (c : Chunk). 12 + c.blocks * block) chunks
+
+-- the most bytes of a file that is sent whole, or nothing after it
+abbrev pub whole_most : Kept → ℕ → ℕ
+whole_most kept first = if first == kept.blocks then 0 else (whole_len kept - 64)
+
+-- the most bytes of all pieces that are still to be given, except 64 for each of them
+abbrev pub most_left : Cutting → ℕ
+most_left c = if nat_le (whole_len c.kept) c.max then whole_most c.kept c.first else chunks_most c.kept.block (behind_blocks c.kept.block c.first c.kept.chunks)
 
 -- bytes after pieces are put over them, each as the file that it is
 abbrev pub put_parts : List Part → List ℕ → List ℕ → List ℕ
@@ -135,3 +148,23 @@ pub record IsPart (part : Part) (len chunks : ℕ) (rest : Rest) : Type 0 where
   pub small : len < 2 ^ 32
   pub all : part.whole ≡ true → (part.first ≡ 0) × (part.last ≡ part.kept.blocks)
   pub cut : part.whole ≡ false → IsCut part.kept part.first part.last chunks rest
+
+-- whatever pieces are given one after another up to the last one, they are together what the file is
+abbrev pub Splits : Kept → ℕ → Cutting → Type 0
+Splits kept max cutting = (file : List ℕ) (parts : List Part) → checked file ≡ Ok kept → AreCut cutting parts → AreSplit kept file max parts
+
+-- and they have at most so many bytes together: those of the image, 16 for each chunk that a file may have, and 64 for each piece
+abbrev pub HasBytesLeft : Kept → Cutting → Type 0
+HasBytesLeft kept cutting = (parts : List Part) → AreCut cutting parts → sum_by part_len parts ≤ kept.blocks * kept.block + 16 * 1000000 + 64 * length parts
+
+-- the bytes of a piece were put
+abbrev pub PutsPart : Part → Option (List ℕ) → Option (List ℕ) → Option (List ℕ) → Type 0
+PutsPart part told before now = Puts told (part_bytes part) (part_len part) before now
+
+-- a front of them was put, that lacks at least one
+abbrev pub PutsPartInPart : Part → Option (List ℕ) → Option (List ℕ) → Option (List ℕ) → Type 0
+PutsPartInPart part told before now = PutsInPart told (part_bytes part) (part_len part) before now
+
+-- of a told file the piece has the image of its cells
+abbrev pub HasPartImage : Part → Option (List ℕ) → Type 0
+HasPartImage part told = IfSome told (λ file. image (part_bytes part file) ≡ Some (part_cells part file))

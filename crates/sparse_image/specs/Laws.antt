@@ -1,9 +1,11 @@
 -- The laws of the definitions.
-use Rattle.std.specs.Prelude.{◌≡◌, ◌<◌, ◌≤◌, ◌*◌, ◌^◌, ℕ, List, length, take, Option, Some, None, Result, Ok, Err}
+use Rattle.std.specs.Prelude.{◌≡◌, ◌<◌, ◌≤◌, ◌*◌, ◌^◌, ℕ, ◌+◌, List, length, take, Option, Some, None, Result, Ok, Err}
+use Rattle.std.specs.List.{sum_by}
+use Rattle.sparse_image.specs.Cuts.{Part, AreCut, part_len}
 use Rattle.dev_model.specs.Images.{image, over}
 use Rattle.dev_model.specs.declared.cells.Cell.{Cell}
 use Rattle.sparse_image.specs.declared.errors.SparseError.{SparseError}
-use Rattle.sparse_image.specs.Walks.{Kept, checked, kept_cells, source_of}
+use Rattle.sparse_image.specs.Walks.{Kept, IsKept, checked, kept_cells, source_of}
 use Rattle.sparse_image.specs.declared.runs.Run.{Run}
 use Rattle.sparse_image.specs.Runs.{Left, IsImage, AreGiven, AreGivenSoFar, put_runs}
 use Rattle.sparse_image.specs.Pieces.{Fits, piece_file, piece_cells, put_pieces, Rise}
@@ -42,6 +44,11 @@ PiecesPut = (file : List ℕ) (kept : Kept) (places old : List ℕ) → checked 
 abbrev pub PiecesFront : Type 0
 PiecesFront = (file : List ℕ) (kept : Kept) (end : ℕ) (places old : List ℕ) → checked file ≡ Ok kept → Rise 0 places end → end ≤ kept.blocks → length (kept_cells kept file) ≤ length old →
     put_pieces kept file 0 places old ≡ over (take (end * kept.block) (kept_cells kept file)) old
+
+-- how many bytes all pieces of a file have together: those of its image, 16 for each chunk that a file may have, and 64 for each piece
+abbrev pub PiecesBytes : Type 0
+PiecesBytes = (kept : Kept) (max : ℕ) (parts : List Part) → IsKept kept → AreCut (record { kept = kept; max = max; first = 0 }) parts →
+    sum_by part_len parts ≤ kept.blocks * kept.block + 16 * 1000000 + 64 * length parts
 
 -- the runs of an image, put at their places in order, are the image put over
 abbrev pub RunsPut : Type 0

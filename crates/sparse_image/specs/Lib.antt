@@ -6,3 +6,4 @@ pub mod Pieces
 pub mod Cuts
 pub mod Reaches
 pub mod Puts
+pub mod Windows

@@ -1,8 +1,8 @@
 -- The walk through an image file (sparse_format.h, version 1.0): what is kept of it, or the first thing
 -- that is wrong, with its kind and place.
-use Rattle.std.specs.Prelude.{◌≡◌, ◌≤◌, ◌<◌, ℕ, zero, suc, ◌+◌, ◌-◌, ◌*◌, ◌/◌, ◌%◌, ◌^◌, Bool, true, false, ◌||◌, not, List, [], ◌∷◌, ◌++◌, length, take, drop, map, replicate, nat_lt, ◌==◌, Option, Some, None, Result, Ok, Err, if◌then◌else◌}
+use Rattle.std.specs.Prelude.{◌≡◌, ◌≤◌, ◌<◌, ℕ, zero, suc, ◌+◌, ◌-◌, ◌*◌, ◌/◌, ◌%◌, ◌^◌, Bool, true, false, ◌||◌, not, List, [], ◌∷◌, ◌++◌, length, take, drop, map, replicate, nat_lt, ◌==◌, Option, Some, None, IfSome, Result, Ok, Err, if◌then◌else◌}
 use Rattle.std.specs.List.{flat_map, sum_by, All}
-use Rattle.dev_model.specs.Images.{round_up, u16_at, u32_at, is_sparse, data_size, copies}
+use Rattle.dev_model.specs.Images.{image, round_up, u16_at, u32_at, is_sparse, data_size, copies}
 use Rattle.dev_model.specs.declared.cells.Cell.{Cell}
 use Rattle.dev_model.specs.declared.cells.Cell.TheVariants.{Byte, Skip}
 use Rattle.sparse_image.specs.declared.errors.SparseKind.{SparseKind}
@@ -208,6 +208,7 @@ pub record IsKept (kept : Kept) : Type 0 where
   pub short : kept.blocks * kept.block ≤ 2 ^ 44
   pub few : length kept.chunks ≤ 1000000
   pub source : kept.source_len < 2 ^ 64
+  pub most : kept.source_len ≤ kept.blocks * kept.block + 16 * 1000000 + 28
   pub count : kept.blocks < 2 ^ 32
   pub well : AreWell kept.block (source_room kept) kept.blocks kept.chunks
 
@@ -215,3 +216,15 @@ pub record IsKept (kept : Kept) : Type 0 where
 abbrev pub prepend : List Chunk → Result (List Chunk) SparseError → Result (List Chunk) SparseError
 prepend before (Ok chunks) = Ok (before ++ chunks)
 prepend before (Err e) = Err e
+
+-- what the walk through a told file answers
+abbrev pub IsChecked : Option (List ℕ) → Result Kept SparseError → Type 0
+IsChecked told result = IfSome told (λ file. checked file ≡ result)
+
+-- a told file has the image that is kept of it
+abbrev pub HasKeptImage : Option (List ℕ) → Kept → Type 0
+HasKeptImage told kept = IfSome told (λ file. image file ≡ Some (kept_cells kept file))
+
+-- a told file has no image
+abbrev pub HasNoImage : Option (List ℕ) → Type 0
+HasNoImage told = IfSome told (λ file. image file ≡ None)

@@ -1,10 +1,10 @@
 ghost use Rattle.std.specs.Prelude.{◌≡◌, ℕ, ◌+◌, ◌-◌, ◌*◌, ◌^◌, ◌<◌, ◌≤◌, ◌++◌, [], length, take, drop, min, IfOk, OnOk, OnErr, List, IfSome, None, Some, Ok, Err};
 ghost use Rattle.std.specs.Result.{IsErrOf};
 ghost use Rattle.fb_frame.specs.Causes.{Rose, HasCause};
-ghost use Rattle.dev_model.specs.Images.{image, is_sparse};
+ghost use Rattle.dev_model.specs.Images.{is_sparse};
 ghost use Rattle.sparse_image.specs.Pieces.{whole_len};
-ghost use Rattle.sparse_image.specs.Cuts.{Cutting, Part, AreCut, AreSplit};
-ghost use Rattle.sparse_image.specs.Walks.{checked, sparse_checked, raw_checked, kept_cells, front_of, header_of, chunk_len, kept, walked, LiesIn, IsFine, AreWell};
+ghost use Rattle.sparse_image.specs.Cuts.{Splits, HasBytesLeft, most_left};
+ghost use Rattle.sparse_image.specs.Walks.{IsChecked, HasKeptImage, HasNoImage, sparse_checked, raw_checked, front_of, header_of, chunk_len, kept, walked, LiesIn, IsFine, AreWell};
 
 use crate::chunk::{Chunk, Content};
 use crate::errors::{SparseError, SparseKind};
@@ -13,6 +13,7 @@ use crate::reads::read_exact;
 use crate::rest::Rest;
 use crate::source::{Bytes, BytesFault};
 use crate::walk::{HEAD, HEADER, Header, RAW_LIMIT, check_end, front_chunk, is_sparse, padding};
+use crate::window::{AHEAD, Window};
 use std::alloc::Global;
 use std::marker::Model;
 
@@ -142,6 +143,7 @@ fn read_chunks<B: Bytes>(
     ensures chunks { IfOk result (λ chunks. IfSome (B.content source.old) (λ file. walked header.now.chunks header.now.block header.now.blocks 28 (drop 28 file) ≡ Ok chunks.items)) }
     ensures well { IfOk result (λ chunks. AreWell header.now.block len header.now.blocks chunks.items) }
     ensures few { IfOk result (λ chunks. length chunks.items ≤ header.now.chunks) }
+    ensures most { OnOk result (len ≤ 28 + header.now.blocks * header.now.block + 16 * header.now.chunks) }
     ensures flaw { (flaw : _) → IsErrOf result (CheckError.Bad flaw) → IfSome (B.content source.old) (λ file. walked header.now.chunks header.now.block header.now.blocks 28 (drop 28 file) ≡ Err flaw) }
     ensures read { IsErrOf result CheckError.Read → Rose (B.faults source.old) (B.faults source.new) }
     ensures content { B.content source.new ≡ B.content source.old }
@@ -230,18 +232,20 @@ impl Index {
     /// The pieces of the file, each of at most `max` bytes and 1,000,000 chunks. Put over one after
     /// another, each as the file that it is, they are the whole image put over.
     pub fn pieces(&self, max: u32) -> Pieces<'_>
-        requires { 131072 ≤ max }
+        requires large { 131072 ≤ max }
         ensures begin { result ≡ record { kept = self.now; max = max; first = 0 } }
-        ensures split { (file : List ℕ) (parts : List Part) → checked file ≡ Ok self.now → AreCut result parts → AreSplit self.now file max parts }
+        ensures most { most_left result ≤ self.now.blocks * self.now.block + 16 * 1000000 }
+        ensures bytes { HasBytesLeft self.now result }
+        ensures split { Splits self.now max result }
     {
         let rest = Rest::new(self.block, self.chunks.as_slice());
         Pieces::new(self, max, rest)
     }
 }
 
-/// The index of a sparse source.
+/// The index of a sparse source, through small reads.
 #[tactic(auto, using(crate::proofs::CheckLemmas::indexes))]
-fn check_sparse<B: Bytes>(alloc: Global, source: &mut B, len: u64) -> Result<Index, CheckError>
+fn read_sparse<B: Bytes>(alloc: Global, source: &mut B, len: u64) -> Result<Index, CheckError>
     requires len { len ≡ B.size source.old }
     requires told { IfSome (B.content source.old) (λ file. length file ≡ len) }
     ensures index { IfOk result (λ index. IfSome (B.content source.old) (λ file. sparse_checked file ≡ Ok index)) }
@@ -262,6 +266,24 @@ fn check_sparse<B: Bytes>(alloc: Global, source: &mut B, len: u64) -> Result<Ind
         blocks: header.blocks,
         chunks,
     })
+}
+
+/// The index of a sparse source, which is read through a window.
+fn check_sparse<B: Bytes>(alloc: Global, source: &mut B, len: u64) -> Result<Index, CheckError>
+    requires len { len ≡ B.size source.old }
+    requires told { IfSome (B.content source.old) (λ file. length file ≡ len) }
+    ensures index { IfOk result (λ index. IfSome (B.content source.old) (λ file. sparse_checked file ≡ Ok index)) }
+    ensures source_len { IfOk result (λ index. index.source_len ≡ len) }
+    ensures flaw { (flaw : _) → IsErrOf result (CheckError.Bad flaw) → IfSome (B.content source.old) (λ file. sparse_checked file ≡ Err flaw) }
+    ensures read { IsErrOf result CheckError.Read → Rose (B.faults source.old) (B.faults source.new) }
+    ensures content { B.content source.new ≡ B.content source.old }
+    ensures same { B.lent source.new ≡ B.lent source.old }
+    ensures size { B.size source.new ≡ B.size source.old }
+    ensures later { B.faults source.old ≤ B.faults source.new }
+{
+    let mut room = [0; AHEAD];
+    let mut window = Window::new(source, &mut room);
+    read_sparse(alloc, &mut window, len)
 }
 
 /// The index of a raw source, of which its length tells all.
@@ -291,18 +313,18 @@ fn check_raw(alloc: Global, len: u64) -> Result<Index, CheckError>
     })
 }
 
-/// Looks at every chunk of an image file, through small reads, and keeps where they stand; or
+/// Looks at every chunk of an image file, through a window, and keeps where they stand; or
 /// answers the first thing that is wrong with the file.
 #[tactic(auto, using(crate::proofs::CheckLemmas::checks))]
 pub fn check<B: Bytes>(alloc: Global, source: &mut B) -> Result<Index, CheckError>
-    ensures index { IfOk result (λ index. IfSome (B.content source.old) (λ file. checked file ≡ Ok index)) }
-    ensures image { IfOk result (λ index. IfSome (B.content source.old) (λ file. image file ≡ Some (kept_cells index file))) }
+    ensures index { IfOk result (λ index. IsChecked (B.content source.old) (Ok index)) }
+    ensures image { IfOk result (λ index. HasKeptImage (B.content source.old) index) }
     ensures source_len { IfOk result (λ index. index.source_len ≡ B.size source.old) }
     ensures some { IfOk result (λ index. 0 < index.blocks) }
     ensures short { IfOk result (λ index. index.blocks * index.block ≤ 2 ^ 44) }
     ensures few { IfOk result (λ index. length index.chunks ≤ 1000000) }
-    ensures flaw { (flaw : _) → IsErrOf result (CheckError.Bad flaw) → IfSome (B.content source.old) (λ file. checked file ≡ Err flaw) }
-    ensures none { (flaw : _) → IsErrOf result (CheckError.Bad flaw) → IfSome (B.content source.old) (λ file. image file ≡ None) }
+    ensures flaw { (flaw : _) → IsErrOf result (CheckError.Bad flaw) → IsChecked (B.content source.old) (Err flaw) }
+    ensures none { (flaw : _) → IsErrOf result (CheckError.Bad flaw) → HasNoImage (B.content source.old) }
     ensures read { IsErrOf result CheckError.Read → Rose (B.faults source.old) (B.faults source.new) }
     ensures content { B.content source.new ≡ B.content source.old }
     ensures same { B.lent source.new ≡ B.lent source.old }

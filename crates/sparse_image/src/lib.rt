@@ -2,7 +2,7 @@
 //! and splitting them into pieces that a device with a small download buffer takes.
 #![tactic(auto)]
 
-ghost use Rattle.sparse_image.specs.Laws.{WalkAgrees, ImageLength, PieceImage, PieceLength, PiecesPut, PiecesFront, RunsPut, RunsFront, WholeImage};
+ghost use Rattle.sparse_image.specs.Laws.{WalkAgrees, ImageLength, PieceImage, PieceLength, PiecesPut, PiecesFront, PiecesBytes, RunsPut, RunsFront, WholeImage};
 
 pub mod chunk;
 pub mod errors;
@@ -18,6 +18,7 @@ pub mod runs;
 pub mod source;
 mod spell;
 mod walk;
+mod window;
 pub mod writes;
 
 /// The laws of the definitions.
@@ -28,6 +29,7 @@ pub fn laws()
     ensures piece_length { PieceLength }
     ensures pieces_put { PiecesPut }
     ensures pieces_front { PiecesFront }
+    ensures pieces_bytes { PiecesBytes }
     ensures runs_put { RunsPut }
     ensures runs_front { RunsFront }
     ensures whole_image { WholeImage }

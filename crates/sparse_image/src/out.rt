@@ -2,16 +2,13 @@ ghost use Rattle.std.specs.Prelude.{◌≡◌, ℕ, List, [], length, Option, So
 ghost use Rattle.fb_frame.specs.Causes.{HasCause};
 ghost use Rattle.sparse_image.specs.Outside.{Grew, GrewInPart, HasRoom, Fell};
 
+use fb_frame::memory::Memory;
 use std::alloc::Global;
 use std::marker::Model;
 
 /// An out couldn't take bytes.
 #[derive(Debug, Drop)]
 pub struct OutFault;
-
-/// There was no memory.
-#[derive(Debug, Drop)]
-pub struct Memory;
 
 /// Something that takes bytes, one piece after another.
 pub trait Out {
@@ -37,7 +34,7 @@ pub trait Out {
     /// Puts all the bytes. After a fault a front of them was put that lacks at least one, where the out
     /// still tells what was put.
     fn put(&mut self, bytes: &[u8]) -> Result<(), OutFault>
-        requires { HasRoom (room self.old) (length bytes.now) }
+        requires fits { HasRoom (room self.old) (length bytes.now) }
         ensures all { OnOk result (Grew (put_so_far self.old) (put_so_far self.new) bytes.now) }
         ensures part { OnErr result (GrewInPart (put_so_far self.old) (put_so_far self.new) bytes.now) }
         ensures room { OnOk result (Fell (room self.old) (room self.new) (length bytes.now)) }

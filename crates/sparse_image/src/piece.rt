@@ -1,11 +1,10 @@
-ghost use Rattle.std.specs.Prelude.{◌≡◌, ◌≤◌, ◌<◌, ◌^◌, true, false, length, Some, Ok, IfSome, OnOk, OnErr};
+ghost use Rattle.std.specs.Prelude.{◌≡◌, ◌≤◌, ◌<◌, ◌^◌, true, false, length, Ok, IfSome, OnOk, OnErr};
 ghost use Rattle.std.specs.Result.{IsErrOf};
 ghost use Rattle.fb_frame.specs.Causes.{Rose};
-ghost use Rattle.dev_model.specs.Images.{image};
 ghost use Rattle.sparse_image.specs.Outside.{HasRoom, Fell};
-ghost use Rattle.sparse_image.specs.Walks.{IsKept, checked};
+ghost use Rattle.sparse_image.specs.Walks.{IsKept, IsChecked, checked};
 ghost use Rattle.sparse_image.specs.Pieces.{behind_blocks, whole_len};
-ghost use Rattle.sparse_image.specs.Cuts.{IsRest, part_len, part_bytes, part_cells, rest_chunks};
+ghost use Rattle.sparse_image.specs.Cuts.{IsRest, PutsPart, PutsPartInPart, HasPartImage, part_len, part_bytes, rest_chunks};
 ghost use Rattle.sparse_image.specs.Puts.{Puts, PutsInPart};
 ghost use Rattle.sparse_image.specs.Reaches.{IsEnded};
 
@@ -17,6 +16,7 @@ use crate::reach::Reach;
 use crate::rest::Rest;
 use crate::source::Bytes;
 use crate::spell::header_bytes;
+use crate::window::{AHEAD, Window};
 use std::marker::Model;
 
 /// How many bytes of a source are held at a time.
@@ -90,8 +90,8 @@ impl<'a> Piece<'a> {
         self.size
     }
 
-    /// Writes a piece that isn't the whole file, through a window.
-    fn write_cut<B: Bytes, O: Out>(
+    /// Writes a piece that isn't the whole file, through small reads where chunks are small.
+    fn write_chunks<B: Bytes, O: Out>(
         &self,
         source: &mut B,
         out: &mut O,
@@ -120,9 +120,15 @@ impl<'a> Piece<'a> {
         put_hole(out, self.index.blocks() - self.last)
     }
 
-    /// Writes the piece, from the source that was checked. After a fault a front of it was put.
-    pub fn write<B: Bytes, O: Out>(&self, source: &mut B, out: &mut O) -> Result<(), PieceFault>
-        requires len { B.size source.old ≡ self.now.kept.source_len }
+    /// Writes a piece that isn't the whole file. Of its small chunks the source is read ahead.
+    fn write_cut<B: Bytes, O: Out>(
+        &self,
+        source: &mut B,
+        out: &mut O,
+        window: &mut [u8],
+    ) -> Result<(), PieceFault>
+        requires cut { self.now.whole ≡ false }
+        requires some { 0 < length window.old }
         requires told { IfSome (B.content source.old) (λ file. checked file ≡ Ok self.now.kept) }
         requires room { HasRoom (O.room out.old) (part_len self.now) }
         ensures put { OnOk result (Puts (B.content source.old) (part_bytes self.now) (part_len self.now) (O.put_so_far out.old) (O.put_so_far out.new)) }
@@ -137,7 +143,30 @@ impl<'a> Piece<'a> {
         ensures size { B.size source.new ≡ B.size source.old }
         ensures read_later { B.faults source.old ≤ B.faults source.new }
         ensures out_later { O.faults out.old ≤ O.faults out.new }
-        ensures image { IfSome (B.content source.old) (λ file. image (part_bytes self.now file) ≡ Some (part_cells self.now file)) }
+    {
+        let mut room = [0; AHEAD];
+        let mut ahead = Window::new(source, &mut room);
+        self.write_chunks(&mut ahead, out, window)
+    }
+
+    /// Writes the piece, from the source that was checked. After a fault a front of it was put.
+    pub fn write<B: Bytes, O: Out>(&self, source: &mut B, out: &mut O) -> Result<(), PieceFault>
+        requires len { B.size source.old ≡ self.now.kept.source_len }
+        requires told { IsChecked (B.content source.old) (Ok self.now.kept) }
+        requires room { HasRoom (O.room out.old) (part_len self.now) }
+        ensures put { OnOk result (PutsPart self.now (B.content source.old) (O.put_so_far out.old) (O.put_so_far out.new)) }
+        ensures part { OnErr result (PutsPartInPart self.now (B.content source.old) (O.put_so_far out.old) (O.put_so_far out.new)) }
+        ensures room { OnOk result (Fell (O.room out.old) (O.room out.new) (part_len self.now)) }
+        ensures out_same { O.lent out.new ≡ O.lent out.old }
+        ensures out_whole { OnOk result (O.whole out.new ≡ O.whole out.old) }
+        ensures read { IsErrOf result PieceFault.Read → Rose (B.faults source.old) (B.faults source.new) }
+        ensures out { IsErrOf result PieceFault.Out → Rose (O.faults out.old) (O.faults out.new) }
+        ensures content { B.content source.new ≡ B.content source.old }
+        ensures same { B.lent source.new ≡ B.lent source.old }
+        ensures size { B.size source.new ≡ B.size source.old }
+        ensures read_later { B.faults source.old ≤ B.faults source.new }
+        ensures out_later { O.faults out.old ≤ O.faults out.new }
+        ensures image { HasPartImage self.now (B.content source.old) }
     {
         let mut window = [0; WINDOW];
         if self.whole {

@@ -1,7 +1,7 @@
-ghost use Rattle.std.specs.Prelude.{◌≡◌, ◌≤◌, ◌<◌, IfSome};
+ghost use Rattle.std.specs.Prelude.{◌≡◌, ◌+◌, ◌≤◌, ◌<◌, IfSome};
 ghost use Rattle.sparse_image.specs.Walks.{IsKept};
 ghost use Rattle.sparse_image.specs.Pieces.{behind_blocks};
-ghost use Rattle.sparse_image.specs.Cuts.{Cuts, IsRest, part_len, rest_chunks};
+ghost use Rattle.sparse_image.specs.Cuts.{Cuts, IsRest, part_len, rest_chunks, most_left};
 
 use crate::index::Index;
 use crate::piece::Piece;
@@ -47,9 +47,11 @@ impl<'a> Pieces<'a> {
     }
 
     /// The next piece, which begins where the one before it ended. None means that all were given.
+    #[tactic(auto, using(crate::proofs::MostLemmas::mosts))]
     pub fn next(&mut self) -> Option<Piece<'a>>
         ensures next { Cuts self.old result self.new }
         ensures more { IfSome result (λ part. part.first < part.last) }
+        ensures most { IfSome result (λ part. part_len part + most_left self.new ≤ most_left self.old + 64) }
         ensures within { IfSome result (λ part. part.last ≤ part.kept.blocks) }
         ensures size { IfSome result (λ part. part_len part ≤ self.old.max) }
     {

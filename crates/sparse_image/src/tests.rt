@@ -1,10 +1,13 @@
-ghost use Rattle.std.specs.Prelude.{◌≡◌, ◌^◌, ◌<◌, length, None, Ok};
-ghost use Rattle.sparse_image.specs.Walks.{checked};
+ghost use Rattle.std.specs.Prelude.{◌≡◌, ◌^◌, ◌<◌, length, None, Ok, OnOk};
+ghost use Rattle.sparse_image.specs.Cuts.{PutsPart, part_len};
+ghost use Rattle.sparse_image.specs.Outside.{Fell, HasRoom};
+ghost use Rattle.sparse_image.specs.Walks.{IsChecked, checked};
 
 use crate::chunk::Chunk;
-use crate::errors::{SparseError, SparseKind};
+use crate::errors::{PieceFault, SparseError, SparseKind};
 use crate::index::{CheckError, check};
-use crate::out::{MemoryOut, Out};
+use crate::out::{MemoryOut, Out, OutFault};
+use crate::piece::Piece;
 use crate::pieces::Pieces;
 use crate::runs::Run;
 use crate::source::{Bytes, BytesFault, MemoryBytes};
@@ -218,6 +221,58 @@ fn sparse_file(
     Ok(file)
 }
 
+/// An out that counts the puts into another one, which it borrows.
+#[derive(Drop)]
+struct CountedOut<'a, O: Out> {
+    out: &'a mut O,
+    puts: u64,
+}
+
+impl<O: Out> Out for CountedOut<'_, O> {
+    ghost use Rattle.std.specs.Borrow.{GName};
+
+    ghost put_so_far = { λ counted. O.put_so_far counted.out.now };
+
+    ghost room = { λ counted. O.room counted.out.now };
+
+    ghost faults = { λ counted. O.faults counted.out.now };
+
+    ghost Lent = { GName × O.Lent };
+
+    ghost lent = { λ counted. (counted.out.ghost_name, O.lent counted.out.now) };
+
+    ghost Whole = { O.Whole };
+
+    ghost whole = { λ counted. O.whole counted.out.now };
+
+    fn put(&mut self, bytes: &[u8]) -> Result<(), OutFault> {
+        self.puts = self.puts.saturating_add(1);
+        self.out.put(bytes)
+    }
+}
+
+/// Writes a piece through a wrapper that borrows the out, and so leaves in the out what `write` leaves.
+fn write_counted<B: Bytes, O: Out>(
+    piece: &Piece<'_>,
+    source: &mut B,
+    out: &mut O,
+) -> Result<u64, PieceFault>
+    requires len { B.size source.old ≡ piece.now.kept.source_len }
+    requires told { IsChecked (B.content source.old) (Ok piece.now.kept) }
+    requires room { HasRoom (O.room out.old) (part_len piece.now) }
+    ensures put { OnOk result (PutsPart piece.now (B.content source.old) (O.put_so_far out.old) (O.put_so_far out.new)) }
+    ensures room { OnOk result (Fell (O.room out.old) (O.room out.new) (part_len piece.now)) }
+    ensures out_same { O.lent out.new ≡ O.lent out.old }
+    ensures same { B.lent source.new ≡ B.lent source.old }
+    ensures content { B.content source.new ≡ B.content source.old }
+{
+    let mut counted = CountedOut { out, puts: 0 };
+    match piece.write(source, &mut counted) {
+        Ok(()) => Ok(counted.puts),
+        Err(fault) => Err(fault),
+    }
+}
+
 /// The next piece of a file, written.
 fn next_piece(
     alloc: Global,
@@ -226,14 +281,14 @@ fn next_piece(
 ) -> Result<Option<MemoryOut>, Fail>
     requires len { length file.now ≡ pieces.old.kept.source_len }
     requires told { checked file.now ≡ Ok pieces.old.kept }
-    ensures { pieces.new.kept ≡ pieces.old.kept }
+    ensures kept { pieces.new.kept ≡ pieces.old.kept }
 {
     let Some(piece) = pieces.next() else {
         return Ok(None);
     };
     let mut source = MemoryBytes::new(file);
     let mut out = MemoryOut::new(alloc, piece.size() as usize).map_err(|_| "no memory")?;
-    piece.write(&mut source, &mut out).map_err(|_| "a fault")?;
+    write_counted(&piece, &mut source, &mut out).map_err(|_| "a fault")?;
     Ok(Some(out))
 }
 

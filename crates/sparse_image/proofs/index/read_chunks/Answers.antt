@@ -2,7 +2,7 @@ use Rattle.std.proofs.Common.{◌≡◌, suc, ◌+◌, ◌-◌, [], ◌++◌, le
 use Rattle.std.proofs.lemmas.Result.{err_from_is_err_and}
 use Rattle.sparse_image.specs.declared.index.CheckError.TheVariants.{Bad}
 use Rattle.sparse_image.specs.Walks.{walked, kept}
-use Rattle.sparse_image.proofs.CheckLemmas.{told-next, told-stops, well-next, kept-short}
+use Rattle.sparse_image.proofs.CheckLemmas.{told-next, told-stops, most-next, well-next, kept-short}
 use Rattle.sparse_image.proofs.index.read_chunks.Goals as goal
 
 pub returns-in_err-chunk-clause-flaw : goal.returns-in_err-chunk-clause-flaw
@@ -22,6 +22,7 @@ loop-preserved g c =
     let k : c.keep.new.chunks.items ≡ c.loop.chunks.items ++ kept chunk [] = c.in_ok-keep.ensures.kept in
     record {
       within = omega (arith, c.len-place.ensures, c.in_ok-chunk.ensures.room);
+      most = rw c.len-place.ensures (most-next header.block header.blocks c.loop.blocks (c.loop.blocks - chunk.blocks) c.loop.place c.loop.counter chunk c.loop.invariant.due c.in_ok-chunk.ensures.due refl c.loop.invariant.most);
       due = omega arith;
       few = rw k (omega (arith, length-append c.loop.chunks.items (kept chunk []), kept-short chunk, c.loop.invariant.few));
       well = rw k (well-next header.block c.args.len header.blocks c.loop.blocks (c.loop.blocks - chunk.blocks) c.loop.chunks.items chunk c.loop.invariant.well c.in_ok-chunk.ensures.lies c.loop.invariant.due c.in_ok-chunk.ensures.due refl);

@@ -1,4 +1,4 @@
-use Rattle.std.proofs.Common.{◌≡◌, ◌-◌, ◌≤◌, length, drop}
+use Rattle.std.proofs.Common.{◌≡◌, ◌+◌, ◌*◌, ◌-◌, ◌≤◌, length, drop}
 use Rattle.std.specs.Prelude.{IfSome}
 use Rattle.sparse_image.specs.Walks.{walked, prepend, AreWell}
 use Rattle.sparse_image.proofs.index.read_chunks.Given as goal
@@ -6,6 +6,7 @@ use Rattle.sparse_image.proofs.index.read_chunks.Given as goal
 abbrev pub invariant-loop : goal.invariant-loop
 invariant-loop g l = record {
   within : l.place ≤ l.len;
+  most : l.place ≤ 28 + (l.header.blocks - l.blocks) * l.header.block + 16 * l.counter;
   due : l.blocks ≤ l.header.blocks;
   few : length l.chunks.items ≤ l.counter;
   well : AreWell l.header.block l.len (l.header.blocks - l.blocks) l.chunks.items;

@@ -8,7 +8,7 @@ use Rattle.sparse_image.specs.Cuts.{Part, part_bytes, part_len}
 use Rattle.sparse_image.specs.Puts.{Puts, PutsInPart, hole_bytes}
 use Rattle.sparse_image.proofs.WriteLemmas.{on-err, on-err-both}
 use Rattle.sparse_image.proofs.PartLemmas.{cut-front, cut-middle, cut-end, cut-all}
-use Rattle.sparse_image.proofs.piece.Piece.write_cut.Goals as goal
+use Rattle.sparse_image.proofs.piece.Piece.write_chunks.Goals as goal
 
 -- the header that was made is the piece's
 header-same : (block b blocks n chunks : ℕ) (header : List ℕ) → header ≡ header_bytes b n chunks → b ≡ block → n ≡ blocks → header ≡ header_bytes block blocks chunks

@@ -2,7 +2,7 @@ use Rattle.std.proofs.Common.{◌≡◌, Err}
 use Rattle.std.proofs.lemmas.Result.{err_from_is_err_and}
 use Rattle.sparse_image.specs.declared.index.CheckError.TheVariants.{Bad}
 use Rattle.sparse_image.proofs.CheckLemmas.{sparse-bad_chunks}
-use Rattle.sparse_image.proofs.index.check_sparse.Goals as goal
+use Rattle.sparse_image.proofs.index.read_sparse.Goals as goal
 
 pub returns-in_err-chunks-clause-flaw : goal.returns-in_err-chunks-clause-flaw
 returns-in_err-chunks-clause-flaw g c flaw h =
