@@ -133,45 +133,46 @@ mod tests {
 
     #[test]
     fn keeps_what_was_written(rt: HostRuntime) -> Result<(), Fail> {
+        fs::create_dir_all(&rt, "kept")?;
         let mut disk = FileDisk::new(&rt);
-        disk.create(rt.alloc(), "image", 6)?;
+        disk.create(rt.alloc(), "kept/image", 6)?;
         disk.write_at(2, b"abc")?;
         disk.sync()?;
-        assert_eq!(rt; fs::read(&rt, "image")?.as_slice(), b"\0\0abc\0".as_slice());
-        assert_eq!(rt; disk.open("image")?, Some(6));
+        assert_eq!(rt;
+            fs::read(&rt, "kept/image")?.as_slice(),
+            b"\0\0abc\0".as_slice()
+        );
+        assert_eq!(rt; disk.open("kept/image")?, Some(6));
         let mut four = [9; 4];
         disk.read_at(1, &mut four)?;
         assert_eq!(rt; four.as_slice(), b"\0abc".as_slice());
         assert_eq!(rt; disk.faults, 0);
+        fs::remove_dir_all(&rt, "kept")?;
         Ok(())
     }
 
     #[test]
     fn faults_where_there_is_no_file(rt: HostRuntime) -> Result<(), Fail> {
+        fs::create_dir_all(&rt, "missing/folder")?;
         let mut disk = FileDisk::new(&rt);
-        assert!(rt; disk.open("missing").is_err());
-        assert_eq!(rt; disk.faults, 1);
-        Ok(())
-    }
-
-    #[test]
-    fn faults_where_a_folder_stands(rt: HostRuntime) -> Result<(), Fail> {
-        fs::create_dir(&rt, "folder")?;
-        let mut disk = FileDisk::new(&rt);
-        assert!(rt; disk.open("folder").is_err());
-        assert!(rt; disk.create(rt.alloc(), "folder", 1).is_err());
-        assert_eq!(rt; disk.faults, 2);
+        assert!(rt; disk.open("missing/image").is_err());
+        assert!(rt; disk.open("missing/folder").is_err());
+        assert!(rt; disk.create(rt.alloc(), "missing/folder", 1).is_err());
+        assert_eq!(rt; disk.faults, 3);
+        fs::remove_dir_all(&rt, "missing")?;
         Ok(())
     }
 
     #[test]
     fn faults_where_a_file_became_shorter(rt: HostRuntime) -> Result<(), Fail> {
+        fs::create_dir_all(&rt, "shorter")?;
         let mut disk = FileDisk::new(&rt);
-        disk.create(rt.alloc(), "image", 4)?;
-        fs::write(&rt, "image", "ab")?;
+        disk.create(rt.alloc(), "shorter/image", 4)?;
+        fs::write(&rt, "shorter/image", "ab")?;
         let mut four = [0; 4];
         assert!(rt; disk.read_at(0, &mut four).is_err());
         assert_eq!(rt; disk.faults, 1);
+        fs::remove_dir_all(&rt, "shorter")?;
         Ok(())
     }
 }

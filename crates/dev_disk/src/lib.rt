@@ -13,6 +13,8 @@ pub mod disk;
 pub mod file;
 pub mod memory;
 mod memory_files;
+#[cfg(test)]
+mod tests;
 pub mod twin;
 
 use crate::disk::Disk;
@@ -22,8 +24,9 @@ use crate::disk::Disk;
 pub fn laws<K: Disk, X>()
     ensures memory { (disk : MemoryDisk) (read : List ℕ → Option X) →
         ReadsHonestly read (memory_told disk).torn }
-    ensures before { (old new : K) (read : List ℕ → Option X) → StaysTorn (K.told old).torn (K.told new).torn →
-        ReadsHonestly read (K.told new).torn → ReadsHonestly read (K.told old).torn }
+    ensures before { (old new : K) (read : List ℕ → Option X) →
+        StaysTorn (K.told old).torn (K.told new).torn → ReadsHonestly read (K.told new).torn →
+        ReadsHonestly read (K.told old).torn }
     ensures left { (disk : K) (read : List ℕ → Option X) (old block now : List ℕ) →
         ReadsHonestly read (K.told disk).torn → IsLeft (K.told disk).torn old block now →
         ReadsAs (read old) (read block) (read now) }

@@ -1,4 +1,5 @@
-ghost use Rattle.std.specs.Prelude.{◌≡◌, ◌≢◌, ℕ, List, length, Option, Some, None, option_map, OnOk, OnErr, IfOk, IsSome, IsTrue, ◌↔◌, ◌≤◌, is_err};
+ghost use Rattle.std.specs.Prelude.{◌≡◌, ◌↔◌, ◌≤◌, ℕ, List, length, is_err, OnOk, OnErr, IfOk, IsSome, IsTrue};
+ghost use Rattle.std.specs.Prelude.{Option, Some, None, option_map};
 ghost use Rattle.std.specs.Option.{ForSome};
 ghost use Rattle.std.specs.Result.{IsErrOf};
 ghost use Rattle.fb_frame.specs.Causes.{HasCause, Rose};
@@ -77,8 +78,8 @@ impl MemoryDisk {
 }
 
 impl Disk for MemoryDisk {
-    ghost use Rattle.dev_disk.specs.Memory.{memory_files, memory_path, memory_bytes, memory_length, memory_faults};
-    ghost use Rattle.dev_disk.specs.Memory.{memory_told, must_fail, Counts, KeepsFiles};
+    ghost use Rattle.dev_disk.specs.Memory.{memory_files, memory_path, memory_bytes, memory_length};
+    ghost use Rattle.dev_disk.specs.Memory.{memory_told, memory_faults, must_fail, Counts, KeepsFiles};
     ghost use Rattle.dev_disk.specs.MemoryLaws.{agree};
 
     ghost lent = { λ _. tt };
@@ -114,7 +115,8 @@ impl Disk for MemoryDisk {
         ensures length { OnOk result (memory_length self.new ≡ Some size) }
         ensures path { OnOk result (memory_path self.new ≡ Some path.now) }
         ensures others { HasOthers path.now (memory_files self.old) (memory_files self.new) }
-        ensures disk { IsErrOf result CreateError.Disk → Rose (memory_faults self.old) (memory_faults self.new) }
+        ensures disk { IsErrOf result CreateError.Disk →
+            Rose (memory_faults self.old) (memory_faults self.new) }
         ensures later { memory_faults self.old ≤ memory_faults self.new }
     {
         let Ok(()) = self.failures.pass(0) else {

@@ -1,5 +1,6 @@
-ghost use Rattle.std.specs.Prelude.{◌≡◌, ◌≢◌, ℕ, List, ◌+◌, ◌≤◌, length, Some, None, option_map, IfSome, IfNone, OnOk, OnErr, IfOk};
-ghost use Rattle.dev_disk.specs.Files.{written};
+ghost use Rattle.std.specs.Prelude.{◌≡◌, ℕ, ◌+◌, ◌≤◌, length, Some, None, option_map};
+ghost use Rattle.std.specs.Prelude.{IfSome, IfNone, OnOk, OnErr, IfOk};
+ghost use Rattle.dev_disk.specs.Files.{written, HasOthers};
 ghost use Rattle.dev_disk.specs.MemoryFiles.{file_of, place_of, path_at, length_at, IsFirst};
 
 use std::alloc::AllocError;
@@ -60,8 +61,9 @@ pub fn overwrite_at(files: &mut [MemoryFile], place: usize, at: usize, bytes: &[
     ensures first { IsFirst files.new place }
     ensures path { path_at files.new place ≡ path_at files.old place }
     ensures length { length_at files.new place ≡ length_at files.old place }
-    ensures here { file_of files.new (path_at files.old place) ≡ option_map (λ old. written old at bytes.now) (file_of files.old (path_at files.old place)) }
-    ensures others { (other : List ℕ) → other ≢ path_at files.old place → file_of files.new other ≡ file_of files.old other }
+    ensures here { file_of files.new (path_at files.old place)
+        ≡ option_map (λ old. written old at bytes.now) (file_of files.old (path_at files.old place)) }
+    ensures others { HasOthers (path_at files.old place) (file_of files.old) (file_of files.new) }
 {
     let file = &mut files[place];
     overwrite(file.bytes.as_mut_slice(), at, bytes);
@@ -73,10 +75,11 @@ pub fn put(files: &mut Vec<MemoryFile>, path: Vec<u8>, bytes: Vec<u8>) -> Result
     ensures path { IfOk result (λ place. path_at files.new.items place ≡ path.items) }
     ensures length { IfOk result (λ place. length_at files.new.items place ≡ length bytes.items) }
     ensures here { OnOk result (file_of files.new.items path.items ≡ Some bytes.items) }
-    ensures others { (other : List ℕ) → other ≢ path.items → file_of files.new.items other ≡ file_of files.old.items other }
+    ensures others { HasOthers path.items (file_of files.old.items) (file_of files.new.items) }
     ensures same { OnErr result (files.new.items ≡ files.old.items) }
     ensures firsts { (place : ℕ) → IsFirst files.old.items place → IsFirst files.new.items place }
-    ensures paths { (place : ℕ) → IsFirst files.old.items place → path_at files.new.items place ≡ path_at files.old.items place }
+    ensures paths { (place : ℕ) → IsFirst files.old.items place →
+        path_at files.new.items place ≡ path_at files.old.items place }
 {
     match find_place(files, path.as_slice()) {
         Some(place) => {
