@@ -40,11 +40,14 @@ fn next_chunk<B: Bytes>(
     requires len { len ≡ B.size source.old }
     requires told { IfSome (B.content source.old) (λ file. length file ≡ len) }
     requires within { place ≤ len }
-    ensures chunk { IfOk result (λ chunk. IfSome (B.content source.old) (λ file. front_of block blocks place (length (drop place file)) (drop place file) ≡ Ok chunk)) }
+    ensures chunk { IfOk result (λ chunk. IfSome (B.content source.old) (λ file. front_of block blocks place
+        (length (drop place file)) (drop place file) ≡ Ok chunk)) }
     ensures due { IfOk result (λ chunk. chunk.blocks ≤ blocks) }
     ensures room { IfOk result (λ chunk. place + chunk_len block chunk ≤ len) }
     ensures lies { IfOk result (λ chunk. LiesIn len (chunk.blocks * block) chunk.content) }
-    ensures flaw { (flaw : _) → IsErrOf result (CheckError.Bad flaw) → IfSome (B.content source.old) (λ file. front_of block blocks place (length (drop place file)) (drop place file) ≡ Err flaw) }
+    ensures flaw { (flaw : _) → IsErrOf result (CheckError.Bad flaw)
+        → IfSome (B.content source.old) (λ file. front_of block blocks place (length (drop place file))
+        (drop place file) ≡ Err flaw) }
     ensures read { IsErrOf result CheckError.Read → Rose (B.faults source.old) (B.faults source.new) }
     ensures memory { ¬ IsErrOf result CheckError.Memory }
     ensures content { B.content source.new ≡ B.content source.old }
@@ -86,10 +89,12 @@ fn begins_sparse<B: Bytes>(source: &mut B, len: u64) -> Result<bool, BytesFault>
 fn read_header<B: Bytes>(source: &mut B, len: u64) -> Result<Header, CheckError>
     requires len { len ≡ B.size source.old }
     requires told { IfSome (B.content source.old) (λ file. length file ≡ len) }
-    ensures header { IfOk result (λ header. IfSome (B.content source.old) (λ file. header_of (length file) file ≡ Ok header)) }
+    ensures header { IfOk result (λ header. IfSome (B.content source.old) (λ file. header_of
+        (length file) file ≡ Ok header)) }
     ensures fine { IfOk result (λ header. IsFine header) }
     ensures long { OnOk result (28 ≤ len) }
-    ensures flaw { (flaw : _) → IsErrOf result (CheckError.Bad flaw) → IfSome (B.content source.old) (λ file. header_of (length file) file ≡ Err flaw) }
+    ensures flaw { (flaw : _) → IsErrOf result (CheckError.Bad flaw)
+        → IfSome (B.content source.old) (λ file. header_of (length file) file ≡ Err flaw) }
     ensures read { IsErrOf result CheckError.Read → Rose (B.faults source.old) (B.faults source.new) }
     ensures content { B.content source.new ≡ B.content source.old }
     ensures same { B.lent source.new ≡ B.lent source.old }
@@ -140,11 +145,15 @@ fn read_chunks<B: Bytes>(
     requires len { len ≡ B.size source.old }
     requires told { IfSome (B.content source.old) (λ file. length file ≡ len) }
     requires long { 28 ≤ len }
-    ensures chunks { IfOk result (λ chunks. IfSome (B.content source.old) (λ file. walked header.now.chunks header.now.block header.now.blocks 28 (drop 28 file) ≡ Ok chunks.items)) }
+    ensures chunks { IfOk result (λ chunks. IfSome (B.content source.old)
+        (λ file. walked header.now.chunks header.now.block header.now.blocks 28
+        (drop 28 file) ≡ Ok chunks.items)) }
     ensures well { IfOk result (λ chunks. AreWell header.now.block len header.now.blocks chunks.items) }
     ensures few { IfOk result (λ chunks. length chunks.items ≤ header.now.chunks) }
     ensures most { OnOk result (len ≤ 28 + header.now.blocks * header.now.block + 16 * header.now.chunks) }
-    ensures flaw { (flaw : _) → IsErrOf result (CheckError.Bad flaw) → IfSome (B.content source.old) (λ file. walked header.now.chunks header.now.block header.now.blocks 28 (drop 28 file) ≡ Err flaw) }
+    ensures flaw { (flaw : _) → IsErrOf result (CheckError.Bad flaw)
+        → IfSome (B.content source.old)
+        (λ file. walked header.now.chunks header.now.block header.now.blocks 28 (drop 28 file) ≡ Err flaw) }
     ensures read { IsErrOf result CheckError.Read → Rose (B.faults source.old) (B.faults source.new) }
     ensures content { B.content source.new ≡ B.content source.old }
     ensures same { B.lent source.new ≡ B.lent source.old }
@@ -248,9 +257,11 @@ impl Index {
 fn read_sparse<B: Bytes>(alloc: Global, source: &mut B, len: u64) -> Result<Index, CheckError>
     requires len { len ≡ B.size source.old }
     requires told { IfSome (B.content source.old) (λ file. length file ≡ len) }
-    ensures index { IfOk result (λ index. IfSome (B.content source.old) (λ file. sparse_checked file ≡ Ok index)) }
+    ensures index { IfOk result (λ index. IfSome (B.content source.old)
+        (λ file. sparse_checked file ≡ Ok index)) }
     ensures source_len { IfOk result (λ index. index.source_len ≡ len) }
-    ensures flaw { (flaw : _) → IsErrOf result (CheckError.Bad flaw) → IfSome (B.content source.old) (λ file. sparse_checked file ≡ Err flaw) }
+    ensures flaw { (flaw : _) → IsErrOf result (CheckError.Bad flaw)
+        → IfSome (B.content source.old) (λ file. sparse_checked file ≡ Err flaw) }
     ensures read { IsErrOf result CheckError.Read → Rose (B.faults source.old) (B.faults source.new) }
     ensures content { B.content source.new ≡ B.content source.old }
     ensures same { B.lent source.new ≡ B.lent source.old }
@@ -272,9 +283,11 @@ fn read_sparse<B: Bytes>(alloc: Global, source: &mut B, len: u64) -> Result<Inde
 fn check_sparse<B: Bytes>(alloc: Global, source: &mut B, len: u64) -> Result<Index, CheckError>
     requires len { len ≡ B.size source.old }
     requires told { IfSome (B.content source.old) (λ file. length file ≡ len) }
-    ensures index { IfOk result (λ index. IfSome (B.content source.old) (λ file. sparse_checked file ≡ Ok index)) }
+    ensures index { IfOk result (λ index. IfSome (B.content source.old)
+        (λ file. sparse_checked file ≡ Ok index)) }
     ensures source_len { IfOk result (λ index. index.source_len ≡ len) }
-    ensures flaw { (flaw : _) → IsErrOf result (CheckError.Bad flaw) → IfSome (B.content source.old) (λ file. sparse_checked file ≡ Err flaw) }
+    ensures flaw { (flaw : _) → IsErrOf result (CheckError.Bad flaw)
+        → IfSome (B.content source.old) (λ file. sparse_checked file ≡ Err flaw) }
     ensures read { IsErrOf result CheckError.Read → Rose (B.faults source.old) (B.faults source.new) }
     ensures content { B.content source.new ≡ B.content source.old }
     ensures same { B.lent source.new ≡ B.lent source.old }
@@ -292,7 +305,8 @@ fn check_raw(alloc: Global, len: u64) -> Result<Index, CheckError>
     requires { 0 < len }
     ensures index { IfOk result (λ index. (file : List ℕ) → length file ≡ len → raw_checked file ≡ Ok index) }
     ensures source_len { IfOk result (λ index. index.source_len ≡ len) }
-    ensures flaw { (flaw : _) → IsErrOf result (CheckError.Bad flaw) → (file : List ℕ) → length file ≡ len → raw_checked file ≡ Err flaw }
+    ensures flaw { (flaw : _) → IsErrOf result (CheckError.Bad flaw) → (file : List ℕ) → length file ≡ len
+        → raw_checked file ≡ Err flaw }
     ensures read { ¬ IsErrOf result CheckError.Read }
 {
     if len > RAW_LIMIT {
@@ -323,7 +337,8 @@ pub fn check<B: Bytes>(alloc: Global, source: &mut B) -> Result<Index, CheckErro
     ensures some { IfOk result (λ index. 0 < index.blocks) }
     ensures short { IfOk result (λ index. index.blocks * index.block ≤ 2 ^ 44) }
     ensures few { IfOk result (λ index. length index.chunks ≤ 1000000) }
-    ensures flaw { (flaw : _) → IsErrOf result (CheckError.Bad flaw) → IsChecked (B.content source.old) (Err flaw) }
+    ensures flaw { (flaw : _) → IsErrOf result (CheckError.Bad flaw)
+        → IsChecked (B.content source.old) (Err flaw) }
     ensures none { (flaw : _) → IsErrOf result (CheckError.Bad flaw) → HasNoImage (B.content source.old) }
     ensures read { IsErrOf result CheckError.Read → Rose (B.faults source.old) (B.faults source.new) }
     ensures content { B.content source.new ≡ B.content source.old }

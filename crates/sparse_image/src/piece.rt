@@ -101,8 +101,10 @@ impl<'a> Piece<'a> {
         requires some { 0 < length window.old }
         requires told { IfSome (B.content source.old) (λ file. checked file ≡ Ok self.now.kept) }
         requires room { HasRoom (O.room out.old) (part_len self.now) }
-        ensures put { OnOk result (Puts (B.content source.old) (part_bytes self.now) (part_len self.now) (O.put_so_far out.old) (O.put_so_far out.new)) }
-        ensures part { OnErr result (PutsInPart (B.content source.old) (part_bytes self.now) (part_len self.now) (O.put_so_far out.old) (O.put_so_far out.new)) }
+        ensures put { OnOk result (Puts (B.content source.old) (part_bytes self.now) (part_len self.now)
+            (O.put_so_far out.old) (O.put_so_far out.new)) }
+        ensures part { OnErr result (PutsInPart (B.content source.old) (part_bytes self.now)
+            (part_len self.now) (O.put_so_far out.old) (O.put_so_far out.new)) }
         ensures room { OnOk result (Fell (O.room out.old) (O.room out.new) (part_len self.now)) }
         ensures out_same { O.lent out.new ≡ O.lent out.old }
         ensures out_whole { OnOk result (O.whole out.new ≡ O.whole out.old) }
@@ -131,8 +133,10 @@ impl<'a> Piece<'a> {
         requires some { 0 < length window.old }
         requires told { IfSome (B.content source.old) (λ file. checked file ≡ Ok self.now.kept) }
         requires room { HasRoom (O.room out.old) (part_len self.now) }
-        ensures put { OnOk result (Puts (B.content source.old) (part_bytes self.now) (part_len self.now) (O.put_so_far out.old) (O.put_so_far out.new)) }
-        ensures part { OnErr result (PutsInPart (B.content source.old) (part_bytes self.now) (part_len self.now) (O.put_so_far out.old) (O.put_so_far out.new)) }
+        ensures put { OnOk result (Puts (B.content source.old) (part_bytes self.now) (part_len self.now)
+            (O.put_so_far out.old) (O.put_so_far out.new)) }
+        ensures part { OnErr result (PutsInPart (B.content source.old) (part_bytes self.now)
+            (part_len self.now) (O.put_so_far out.old) (O.put_so_far out.new)) }
         ensures room { OnOk result (Fell (O.room out.old) (O.room out.new) (part_len self.now)) }
         ensures out_same { O.lent out.new ≡ O.lent out.old }
         ensures out_whole { OnOk result (O.whole out.new ≡ O.whole out.old) }
@@ -154,8 +158,10 @@ impl<'a> Piece<'a> {
         requires len { B.size source.old ≡ self.now.kept.source_len }
         requires told { IsChecked (B.content source.old) (Ok self.now.kept) }
         requires room { HasRoom (O.room out.old) (part_len self.now) }
-        ensures put { OnOk result (PutsPart self.now (B.content source.old) (O.put_so_far out.old) (O.put_so_far out.new)) }
-        ensures part { OnErr result (PutsPartInPart self.now (B.content source.old) (O.put_so_far out.old) (O.put_so_far out.new)) }
+        ensures put { OnOk result (PutsPart self.now (B.content source.old) (O.put_so_far out.old)
+            (O.put_so_far out.new)) }
+        ensures part { OnErr result (PutsPartInPart self.now (B.content source.old) (O.put_so_far out.old)
+            (O.put_so_far out.new)) }
         ensures room { OnOk result (Fell (O.room out.old) (O.room out.new) (part_len self.now)) }
         ensures out_same { O.lent out.new ≡ O.lent out.old }
         ensures out_whole { OnOk result (O.whole out.new ≡ O.whole out.old) }

@@ -27,8 +27,10 @@ fn copy_window<B: Bytes, O: Out>(
 ) -> Result<(), PieceFault>
     requires some { 0 < length window.old }
     requires room { HasRoom (O.room out.old) (length window.old) }
-    ensures put { OnOk result (Puts (B.content source.old) (padded_part at (length window.old)) (length window.old) (O.put_so_far out.old) (O.put_so_far out.new)) }
-    ensures part { OnErr result (PutsInPart (B.content source.old) (padded_part at (length window.old)) (length window.old) (O.put_so_far out.old) (O.put_so_far out.new)) }
+    ensures put { OnOk result (Puts (B.content source.old) (padded_part at (length window.old))
+        (length window.old) (O.put_so_far out.old) (O.put_so_far out.new)) }
+    ensures part { OnErr result (PutsInPart (B.content source.old) (padded_part at (length window.old))
+        (length window.old) (O.put_so_far out.old) (O.put_so_far out.new)) }
     ensures room { OnOk result (Fell (O.room out.old) (O.room out.new) (length window.old)) }
     ensures out_same { O.lent out.new ≡ O.lent out.old }
     ensures out_whole { OnOk result (O.whole out.new ≡ O.whole out.old) }
@@ -61,8 +63,10 @@ pub fn copy<B: Bytes, O: Out>(
     requires some { 0 < length window.old }
     requires fits { at + n < 2 ^ 64 }
     requires room { HasRoom (O.room out.old) n }
-    ensures put { OnOk result (Puts (B.content source.old) (padded_part at n) n (O.put_so_far out.old) (O.put_so_far out.new)) }
-    ensures part { OnErr result (PutsInPart (B.content source.old) (padded_part at n) n (O.put_so_far out.old) (O.put_so_far out.new)) }
+    ensures put { OnOk result (Puts (B.content source.old) (padded_part at n) n (O.put_so_far out.old)
+        (O.put_so_far out.new)) }
+    ensures part { OnErr result (PutsInPart (B.content source.old) (padded_part at n) n
+        (O.put_so_far out.old) (O.put_so_far out.new)) }
     ensures room { OnOk result (Fell (O.room out.old) (O.room out.new) n) }
     ensures out_same { O.lent out.new ≡ O.lent out.old }
     ensures out_whole { OnOk result (O.whole out.new ≡ O.whole out.old) }
@@ -111,8 +115,10 @@ fn put_data<B: Bytes, O: Out>(
     requires some { 0 < length window.old }
     requires lies { LiesIn (2 ^ 64 - 1) n content }
     requires room { HasRoom (O.room out.old) (content_len n content) }
-    ensures put { OnOk result (Puts (B.content source.old) (padded_data n content) (content_len n content) (O.put_so_far out.old) (O.put_so_far out.new)) }
-    ensures part { OnErr result (PutsInPart (B.content source.old) (padded_data n content) (content_len n content) (O.put_so_far out.old) (O.put_so_far out.new)) }
+    ensures put { OnOk result (Puts (B.content source.old) (padded_data n content) (content_len n content)
+        (O.put_so_far out.old) (O.put_so_far out.new)) }
+    ensures part { OnErr result (PutsInPart (B.content source.old) (padded_data n content)
+        (content_len n content) (O.put_so_far out.old) (O.put_so_far out.new)) }
     ensures room { OnOk result (Fell (O.room out.old) (O.room out.new) (content_len n content)) }
     ensures out_same { O.lent out.new ≡ O.lent out.old }
     ensures out_whole { OnOk result (O.whole out.new ≡ O.whole out.old) }
@@ -143,10 +149,16 @@ fn put_chunk<B: Bytes, O: Out>(
     requires some { 0 < length window.old }
     requires lies { LiesIn (2 ^ 64 - 1) (blocks * block) content }
     requires small { chunk_len block (record { blocks = blocks; content = content }) < 2 ^ 32 }
-    requires room { HasRoom (O.room out.old) (chunk_len block (record { blocks = blocks; content = content })) }
-    ensures put { OnOk result (Puts (B.content source.old) (padded_chunk block (record { blocks = blocks; content = content })) (chunk_len block (record { blocks = blocks; content = content })) (O.put_so_far out.old) (O.put_so_far out.new)) }
-    ensures part { OnErr result (PutsInPart (B.content source.old) (padded_chunk block (record { blocks = blocks; content = content })) (chunk_len block (record { blocks = blocks; content = content })) (O.put_so_far out.old) (O.put_so_far out.new)) }
-    ensures room { OnOk result (Fell (O.room out.old) (O.room out.new) (chunk_len block (record { blocks = blocks; content = content }))) }
+    requires room { HasRoom (O.room out.old) (chunk_len block
+        (record { blocks = blocks; content = content })) }
+    ensures put { OnOk result (Puts (B.content source.old) (padded_chunk block
+        (record { blocks = blocks; content = content })) (chunk_len block
+        (record { blocks = blocks; content = content })) (O.put_so_far out.old) (O.put_so_far out.new)) }
+    ensures part { OnErr result (PutsInPart (B.content source.old) (padded_chunk block
+        (record { blocks = blocks; content = content })) (chunk_len block
+        (record { blocks = blocks; content = content })) (O.put_so_far out.old) (O.put_so_far out.new)) }
+    ensures room { OnOk result (Fell (O.room out.old) (O.room out.new) (chunk_len block
+        (record { blocks = blocks; content = content }))) }
     ensures out_same { O.lent out.new ≡ O.lent out.old }
     ensures out_whole { OnOk result (O.whole out.new ≡ O.whole out.old) }
     ensures read { IsErrOf result PieceFault.Read → Rose (B.faults source.old) (B.faults source.new) }
@@ -174,10 +186,16 @@ pub fn put_chunks<B: Bytes, O: Out>(
     requires some { 0 < length window.old }
     requires rest { IsRest rest }
     requires small { sum_by (chunk_len rest.block) (first_blocks left (rest_chunks rest)) < 2 ^ 32 }
-    requires room { HasRoom (O.room out.old) (sum_by (chunk_len rest.block) (first_blocks left (rest_chunks rest))) }
-    ensures put { OnOk result (Puts (B.content source.old) (padded_chunks rest.entry.block (first_blocks left (rest_chunks rest.entry))) (sum_by (chunk_len rest.entry.block) (first_blocks left (rest_chunks rest.entry))) (O.put_so_far out.old) (O.put_so_far out.new)) }
-    ensures part { OnErr result (PutsInPart (B.content source.old) (padded_chunks rest.entry.block (first_blocks left (rest_chunks rest.entry))) (sum_by (chunk_len rest.entry.block) (first_blocks left (rest_chunks rest.entry))) (O.put_so_far out.old) (O.put_so_far out.new)) }
-    ensures room { OnOk result (Fell (O.room out.old) (O.room out.new) (sum_by (chunk_len rest.entry.block) (first_blocks left (rest_chunks rest.entry)))) }
+    requires room { HasRoom (O.room out.old) (sum_by (chunk_len rest.block) (first_blocks left
+        (rest_chunks rest))) }
+    ensures put { OnOk result (Puts (B.content source.old) (padded_chunks rest.entry.block
+        (first_blocks left (rest_chunks rest.entry))) (sum_by (chunk_len rest.entry.block)
+        (first_blocks left (rest_chunks rest.entry))) (O.put_so_far out.old) (O.put_so_far out.new)) }
+    ensures part { OnErr result (PutsInPart (B.content source.old) (padded_chunks rest.entry.block
+        (first_blocks left (rest_chunks rest.entry))) (sum_by (chunk_len rest.entry.block)
+        (first_blocks left (rest_chunks rest.entry))) (O.put_so_far out.old) (O.put_so_far out.new)) }
+    ensures room { OnOk result (Fell (O.room out.old) (O.room out.new) (sum_by (chunk_len rest.entry.block)
+        (first_blocks left (rest_chunks rest.entry)))) }
     ensures out_same { O.lent out.new ≡ O.lent out.old }
     ensures out_whole { OnOk result (O.whole out.new ≡ O.whole out.old) }
     ensures read { IsErrOf result PieceFault.Read → Rose (B.faults source.old) (B.faults source.new) }
@@ -204,7 +222,8 @@ pub fn put_chunks<B: Bytes, O: Out>(
 pub fn put_hole<O: Out>(out: &mut O, blocks: u32) -> Result<(), PieceFault>
     requires { HasRoom (O.room out.old) (length (hole_bytes blocks)) }
     ensures all { OnOk result (Grew (O.put_so_far out.old) (O.put_so_far out.new) (hole_bytes blocks)) }
-    ensures part { OnErr result (GrewInPart (O.put_so_far out.old) (O.put_so_far out.new) (hole_bytes blocks)) }
+    ensures part { OnErr result (GrewInPart (O.put_so_far out.old) (O.put_so_far out.new)
+        (hole_bytes blocks)) }
     ensures some { OnErr result (0 < length (hole_bytes blocks)) }
     ensures room { OnOk result (Fell (O.room out.old) (O.room out.new) (length (hole_bytes blocks))) }
     ensures out_same { O.lent out.new ≡ O.lent out.old }
@@ -221,9 +240,12 @@ pub fn put_hole<O: Out>(out: &mut O, blocks: u32) -> Result<(), PieceFault>
 /// Puts the header of a piece and the chunk of so many blocks before its first one.
 pub fn put_front<O: Out>(out: &mut O, header: &[u8], first: u32) -> Result<(), PieceFault>
     requires room { HasRoom (O.room out.old) (length (header.now ++ hole_bytes first)) }
-    ensures all { OnOk result (Grew (O.put_so_far out.old) (O.put_so_far out.new) (header.now ++ hole_bytes first)) }
-    ensures part { OnErr result (GrewInPart (O.put_so_far out.old) (O.put_so_far out.new) (header.now ++ hole_bytes first)) }
-    ensures room { OnOk result (Fell (O.room out.old) (O.room out.new) (length (header.now ++ hole_bytes first))) }
+    ensures all { OnOk result (Grew (O.put_so_far out.old) (O.put_so_far out.new)
+        (header.now ++ hole_bytes first)) }
+    ensures part { OnErr result (GrewInPart (O.put_so_far out.old) (O.put_so_far out.new)
+        (header.now ++ hole_bytes first)) }
+    ensures room { OnOk result (Fell (O.room out.old) (O.room out.new) (length
+        (header.now ++ hole_bytes first))) }
     ensures out_same { O.lent out.new ≡ O.lent out.old }
     ensures out_whole { OnOk result (O.whole out.new ≡ O.whole out.old) }
     ensures cause { HasCause (O.faults out.old) (O.faults out.new) result }

@@ -74,9 +74,11 @@ impl<'a> Reach<'a> {
     fn take_whole(&mut self, chunk: &Chunk) -> bool
         requires front { first_chunk (rest_chunks self.old.rest) ≡ Some chunk.now }
         requires reach { IsReach self.old }
-        ensures taken { result ≡ true → Grows self.old chunk.now.blocks (chunk_len self.old.rest.block chunk.now) self.new }
+        ensures taken { result ≡ true → Grows self.old chunk.now.blocks
+            (chunk_len self.old.rest.block chunk.now) self.new }
         ensures reach { IsReach self.new }
-        ensures breaks { result ≡ false → Breaks self.old chunk.now.blocks (chunk_len self.old.rest.block chunk.now) }
+        ensures breaks { result ≡ false
+            → Breaks self.old chunk.now.blocks (chunk_len self.old.rest.block chunk.now) }
         ensures stays { result ≡ false → self.new ≡ self.old }
     {
         let len = chunk.len(self.rest.block);
@@ -96,9 +98,12 @@ impl<'a> Reach<'a> {
         requires some { 0 < chunk.now.blocks }
         requires breaks { Breaks self.now chunk.now.blocks (chunk_len self.now.rest.block chunk.now) }
         ensures below { result < chunk.now.blocks }
-        ensures size { 0 < result → self.now.bytes + (12 + content_len (result * self.now.rest.block) chunk.now.content) + 12 ≤ self.now.max }
+        ensures size { 0 < result → self.now.bytes + (12 + content_len
+            (result * self.now.rest.block) chunk.now.content) + 12 ≤ self.now.max }
         ensures few { 0 < result → self.now.chunks + 2 ≤ 1000000 }
-        ensures full { (n : ℕ) → result < n → n < chunk.now.blocks → (self.now.max < self.now.bytes + (12 + content_len (n * self.now.rest.block) chunk.now.content) + 12) ⊎ (1000000 < self.now.chunks + 2) }
+        ensures full { (n : ℕ) → result < n → n < chunk.now.blocks
+            → (self.now.max < self.now.bytes + (12 + content_len
+            (n * self.now.rest.block) chunk.now.content) + 12) ⊎ (1000000 < self.now.chunks + 2) }
         ensures some { self.now.bytes ≤ 40 → self.now.chunks ≤ 1 → 0 < result }
     {
         let Content::Raw(_) = chunk.content else {
@@ -153,7 +158,9 @@ impl<'a> Reach<'a> {
         requires high { rest.block ≤ 65536 }
         requires large { 131072 ≤ max }
         requires total { first + sum_by (λ chunk. chunk.blocks) (rest_chunks rest) ≡ blocks }
-        ensures piece { (kept : Kept) → kept.block ≡ rest.entry.block → kept.blocks ≡ blocks → first < blocks → rest_chunks rest.entry ≡ behind_blocks kept.block first kept.chunks → IsEnded kept first result }
+        ensures piece { (kept : Kept) → kept.block ≡ rest.entry.block → kept.blocks ≡ blocks
+            → first < blocks → rest_chunks rest.entry ≡ behind_blocks kept.block first kept.chunks
+            → IsEnded kept first result }
         ensures max { result.max ≡ max }
         ensures rest { IsRest result.rest }
         ensures block { result.rest.block ≡ rest.entry.block }

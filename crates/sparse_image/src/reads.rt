@@ -33,7 +33,8 @@ fn clear(buf: &mut [u8])
 /// Fills the buffer with the bytes of a source from a place on, and zeros behind their end.
 #[tactic(auto, using(crate::proofs::PaddedLemmas::paddings))]
 pub fn read_padded<B: Bytes>(source: &mut B, at: u64, buf: &mut [u8]) -> Result<(), BytesFault>
-    ensures read { OnOk result (IfSome (B.content source.old) (λ file. buf.new ≡ padded_part at (length buf.old) file)) }
+    ensures read { OnOk result (IfSome (B.content source.old) (λ file. buf.new ≡ padded_part at
+        (length buf.old) file)) }
     ensures content { B.content source.new ≡ B.content source.old }
     ensures same { B.lent source.new ≡ B.lent source.old }
     ensures size { B.size source.new ≡ B.size source.old }

@@ -52,7 +52,8 @@ impl<'a> Rest<'a> {
         requires { IsRest self.now }
         ensures front { result ≡ first_chunk (rest_chunks self.now) }
         ensures some { IfSome result (λ chunk. 0 < chunk.blocks) }
-        ensures lies { IfSome result (λ chunk. LiesIn (2 ^ 64 - 1) (chunk.blocks * self.now.block) chunk.content) }
+        ensures lies { IfSome result (λ chunk. LiesIn (2 ^ 64 - 1)
+            (chunk.blocks * self.now.block) chunk.content) }
     {
         let (chunk, _) = self.chunks.split_first()?;
         let behind = u64::from(self.skip) * u64::from(self.block);

@@ -59,13 +59,16 @@ impl<'a> Chunks<'a> {
     fn advance(&mut self) -> Chunk
         requires some { 0 < self.old.chunks }
         requires whole { AreWhole self.old }
-        ensures advances { Advances (chunks_left self.old) (cells_of self.old.block self.old.bytes.now result) (chunks_left self.new) }
+        ensures advances { Advances (chunks_left self.old)
+            (cells_of self.old.block self.old.bytes.now result) (chunks_left self.new) }
         ensures whole { AreWhole self.new }
         ensures fewer { self.new.chunks + 1 ≡ self.old.chunks }
         ensures block { self.new.block ≡ self.old.block }
         ensures lies { LiesIn (length self.old.bytes.now) (result.blocks * self.old.block) result.content }
-        ensures long { length (cells_of self.old.block self.old.bytes.now result) ≡ result.blocks * self.old.block }
-        ensures within { self.old.at + result.blocks * self.old.block ≤ self.old.at + self.old.blocks * self.old.block }
+        ensures long { length (cells_of self.old.block self.old.bytes.now result) ≡ result.blocks *
+            self.old.block }
+        ensures within { self.old.at + result.blocks * self.old.block ≤ self.old.at + self.old.blocks *
+            self.old.block }
         ensures small { self.old.at + result.blocks * self.old.block < 2 ^ 64 }
     {
         let bytes = self.bytes;

@@ -260,7 +260,8 @@ fn write_counted<B: Bytes, O: Out>(
     requires len { B.size source.old ≡ piece.now.kept.source_len }
     requires told { IsChecked (B.content source.old) (Ok piece.now.kept) }
     requires room { HasRoom (O.room out.old) (part_len piece.now) }
-    ensures put { OnOk result (PutsPart piece.now (B.content source.old) (O.put_so_far out.old) (O.put_so_far out.new)) }
+    ensures put { OnOk result (PutsPart piece.now (B.content source.old) (O.put_so_far out.old)
+        (O.put_so_far out.new)) }
     ensures room { OnOk result (Fell (O.room out.old) (O.room out.new) (part_len piece.now)) }
     ensures out_same { O.lent out.new ≡ O.lent out.old }
     ensures same { B.lent source.new ≡ B.lent source.old }

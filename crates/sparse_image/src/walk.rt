@@ -83,7 +83,8 @@ impl Header {
     /// Tries the fields that are the same in each file.
     fn check_form(head: &[u8]) -> Result<(), SparseError>
         requires { 28 ≤ length head.now }
-        ensures { result_err result ≡ form_flaw (u16_at 4 head.now) (u16_at 6 head.now) (u16_at 8 head.now) (u16_at 10 head.now) }
+        ensures { result_err result ≡ form_flaw (u16_at 4 head.now) (u16_at 6 head.now) (u16_at 8 head.now)
+            (u16_at 10 head.now) }
     {
         if u16_at(head, 4) != 1 {
             return Err(SparseError::new(SparseKind::BadHeader, 4));
@@ -246,7 +247,8 @@ pub fn check_end(blocks: u32, place: u64, left: u64) -> Result<(), SparseError>
 #[tactic(auto, using(crate::proofs::WalkSteps::walk_steps))]
 pub fn check_chunks(file: &[u8], header: &Header) -> Result<(), SparseError>
     requires { 28 ≤ length file.now }
-    ensures { result_err result ≡ result_err (walked header.now.chunks header.now.block header.now.blocks 28 (drop 28 file.now)) }
+    ensures { result_err result ≡ result_err (walked header.now.chunks header.now.block header.now.blocks 28
+        (drop 28 file.now)) }
 {
     let mut blocks = header.blocks;
     let mut place = HEADER;
