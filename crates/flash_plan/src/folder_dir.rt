@@ -10,8 +10,7 @@ use std::rt::Files;
 
 /// A folder of the system. It tells neither its path nor its files.
 ///
-/// An absent folder, a read that gives nothing, and a name that isn't text or has more than 64 bytes
-/// are faults.
+/// An absent folder, what is no file, and a read that gives nothing are faults.
 #[derive(Drop)]
 pub struct FolderDir<R> {
     system: R,
@@ -44,7 +43,7 @@ impl<R: Files> ProductDir for FolderDir<R> {
 
     ghost faults = { λ dir. dir.faults };
 
-    ghost kept = { λ dir. tt };
+    ghost lent = { λ dir. tt };
 
     fn enter(&mut self, alloc: Global, path: &str) -> Result<bool, EnterError> {
         self.folder = None;

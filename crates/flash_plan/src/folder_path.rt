@@ -1,10 +1,8 @@
 ghost use Rattle.std.specs.Prelude.{◌+◌, ◌≤◌, vec_capacity};
 
+use crate::dir::MOST_NAME;
 use std::alloc::{AllocError, Global};
 use std::str;
-
-/// The most bytes of a file's name.
-const NAME: usize = 64;
 
 /// The path of a folder, with room for the name of a file in it.
 #[derive(Drop)]
@@ -18,7 +16,7 @@ impl FolderPath {
     /// The path and a slash.
     pub(crate) fn new(alloc: Global, path: &str) -> Result<FolderPath, AllocError> {
         let folder = path.len() + 1;
-        let mut bytes = Vec::with_capacity(alloc, folder + NAME)?;
+        let mut bytes = Vec::with_capacity(alloc, folder + MOST_NAME)?;
         bytes.extend_from_slice(path.as_bytes())?;
         bytes.push(b'/')?;
         Ok(FolderPath { bytes, folder })
@@ -27,7 +25,7 @@ impl FolderPath {
     /// The path of the file of this name, without taking memory. None where the name is too long or
     /// isn't text.
     pub(crate) fn path_of(&mut self, name: &[u8]) -> Option<&str> {
-        if name.len() > NAME {
+        if name.len() > MOST_NAME {
             return None;
         }
         self.bytes.truncate(self.folder);

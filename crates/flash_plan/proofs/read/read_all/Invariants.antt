@@ -8,7 +8,7 @@ invariant-loop-at g l = record {
   entered : g.D.ProductDir.entered l.dir ≡ g.D.ProductDir.entered l.initial.dir;
   path : g.D.ProductDir.told_path l.dir ≡ g.D.ProductDir.told_path l.initial.dir;
   files : g.D.ProductDir.files l.dir ≡ g.D.ProductDir.files l.initial.dir;
-  kept : g.D.ProductDir.kept l.dir ≡ g.D.ProductDir.kept l.initial.dir;
+  same : g.D.ProductDir.lent l.dir ≡ g.D.ProductDir.lent l.initial.dir;
   size : HasSize (g.D.ProductDir.files l.dir) l.name (Some (length l.buf));
   front : IsRead (g.D.ProductDir.files l.dir) l.name 0 (take l.at l.buf);
   later : g.D.ProductDir.faults l.initial.dir ≤ g.D.ProductDir.faults l.dir;
