@@ -46,7 +46,16 @@ impl MemoryDir {
         files: Vec<DirFile>,
         fails: Vec<u64>,
     ) -> Result<MemoryDir, Memory>
-        ensures { IfOk result (λ dir. dir ≡ record { path = path.now; files = files.items; fails = fails.items; calls = 0; entered = false; faults = 0; longest = 0 }) }
+        ensures { IfOk result (λ dir.
+            dir ≡ record {
+              path = path.now;
+              files = files.items;
+              fails = fails.items;
+              calls = 0;
+              entered = false;
+              faults = 0;
+              longest = 0;
+            }) }
     {
         let path = path.to_string(alloc).map_err(|_| Memory)?;
         Ok(MemoryDir {
@@ -84,7 +93,8 @@ impl MemoryDir {
 
 /// The bytes of the first file of this name.
 fn file_at<'a>(files: &'a [DirFile], name: &[u8]) -> Option<&'a [u8]>
-    ensures { MatchOption result (file_of files.now name.now ≡ None) (λ bytes. file_of files.now name.now ≡ Some bytes.now) }
+    ensures { MatchOption result (file_of files.now name.now ≡ None) (λ bytes.
+        file_of files.now name.now ≡ Some bytes.now) }
 {
     for file in files {
         if file.name.as_bytes() == name {
@@ -151,7 +161,8 @@ impl ProductDir for MemoryDir {
         requires { MayRead (Some (file_of self.old.files)) name.now at }
         ensures within { IfOk result (λ n. n ≤ length buf.new) }
         ensures some { IfOk result (λ n. 0 < length buf.new → 0 < n) }
-        ensures read { IfOk result (λ n. IsRead (Some (file_of self.old.files)) name.now at (take n buf.new)) }
+        ensures read { IfOk result (λ n.
+            IsRead (Some (file_of self.old.files)) name.now at (take n buf.new)) }
         ensures fails { IsErr result ↔ IsTrue (fails_next self.old) }
         ensures after { self.new ≡ after_read self.old (length buf.old) }
         ensures cause { HasCause self.old.faults self.new.faults result }

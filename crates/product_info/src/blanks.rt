@@ -102,7 +102,8 @@ pub(crate) fn first_part(text: &[u8], at: u8) -> (&[u8], Option<&[u8]>)
 /// The first word, and what follows it. None where there are only blanks.
 #[tactic(auto, using(crate::proofs::BlankLemmas::worded))]
 pub(crate) fn first_word(text: &[u8]) -> Option<(&[u8], &[u8])>
-    ensures words { MatchOption result (words text.now ≡ []) (λ sides. words text.now ≡ sides.0.now ∷ words sides.1.now) }
+    ensures words { MatchOption result (words text.now ≡ []) (λ sides.
+        words text.now ≡ sides.0.now ∷ words sides.1.now) }
     ensures shorter { IfSome result (λ sides. length sides.1.now < length text.now) }
 {
     let text = trim_front(text);

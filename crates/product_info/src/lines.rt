@@ -37,9 +37,11 @@ pub(crate) fn add<T: Drop>(items: &mut Items<T>, line: u32, item: T) -> Result<(
     ensures added { OnOk result (items.new ≡ items.old ++ item ∷ []) }
     ensures room { OnOk result (length items.old < 256) }
     ensures most { OnOk result (length items.new ≤ 256) }
-    ensures full { (number : _) (kind : _) → IsErrOf result (InfoError.Bad number kind) → 256 ≤ length items.old }
+    ensures full { (number : _) (kind : _) → IsErrOf result (InfoError.Bad number kind) →
+        256 ≤ length items.old }
     ensures line { (number : _) (kind : _) → IsErrOf result (InfoError.Bad number kind) → number ≡ line }
-    ensures kind { (number : _) (kind : _) → IsErrOf result (InfoError.Bad number kind) → kind ≡ InfoKind.TooMany }
+    ensures kind { (number : _) (kind : _) → IsErrOf result (InfoError.Bad number kind) →
+        kind ≡ InfoKind.TooMany }
 {
     if items.len() >= MOST {
         return Err(bad(line, InfoKind::TooMany));

@@ -58,7 +58,8 @@ fn holds(kind: ReqKind, values: &[Word], value: Option<&[u8]>) -> bool
 /// The value of kind `Exists` is the text of `has-slot` with the line's name. None is a variable that
 /// the device lacks, which matches nothing.
 pub fn meets(requirement: &Requirement, product: Option<&[u8]>, value: Option<&[u8]>) -> bool
-    ensures { result ≡ meets requirement.now (option_map (λ p. p.now) product.entry) (option_map (λ v. v.now) value.entry) }
+    ensures { result ≡ meets requirement.now (option_map (λ p. p.now) product.entry)
+        (option_map (λ v. v.now) value.entry) }
 {
     !is_for(&requirement.product, product)
         || holds(requirement.kind, requirement.values.as_slice(), value)

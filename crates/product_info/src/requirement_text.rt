@@ -73,7 +73,8 @@ fn read_listed(
     text: &[u8],
 ) -> Result<Requirement, LineError>
     ensures read { IfOk result (λ r. listed line product rejects name (values_of text.now) ≡ Some r) }
-    ensures bad { IsErrOf result LineError.Bad → listed line product rejects name (values_of text.now) ≡ None }
+    ensures bad { IsErrOf result LineError.Bad →
+        listed line product rejects name (values_of text.now) ≡ None }
 {
     let values = read_values(alloc, text)?;
     let kind = if rejects {

@@ -17,10 +17,12 @@ fn read_line(
     line: &[u8],
     list: &mut Requirements,
 ) -> Result<(), InfoError>
-    ensures added { OnOk result (Added (line_says InfoKind.BadLine (requirement_of number) line.now) list.old list.new) }
+    ensures added { OnOk result (Added (line_says InfoKind.BadLine (requirement_of number) line.now) list.old
+        list.new) }
     ensures most { length list.old ≤ 256 → OnOk result (length list.new ≤ 256) }
     ensures line { (n : _) (kind : _) → IsErrOf result (InfoError.Bad n kind) → n ≡ number }
-    ensures bad { (n : _) (kind : _) → IsErrOf result (InfoError.Bad n kind) → IsBad (line_says InfoKind.BadLine (requirement_of number) line.now) list.old kind }
+    ensures bad { (n : _) (kind : _) → IsErrOf result (InfoError.Bad n kind) →
+        IsBad (line_says InfoKind.BadLine (requirement_of number) line.now) list.old kind }
 {
     let text = content(line);
     if is_skipped(text) {
@@ -45,7 +47,8 @@ pub fn read_requirements(alloc: Global, text: &[u8]) -> Result<Requirements, Inf
     requires short { length text.now ≤ 65536 }
     ensures list { IfOk result (λ list. requirements text.now ≡ Lists list) }
     ensures most { IfOk result (λ list. length list ≤ 256) }
-    ensures bad { (line : _) (kind : _) → IsErrOf result (InfoError.Bad line kind) → requirements text.now ≡ Fails line kind }
+    ensures bad { (line : _) (kind : _) → IsErrOf result (InfoError.Bad line kind) →
+        requirements text.now ≡ Fails line kind }
 {
     let mut list = Requirements::new(alloc);
     let mut number = 1;

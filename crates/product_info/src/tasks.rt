@@ -16,7 +16,8 @@ use std::alloc::Global;
 fn read_first(number: u32, line: &[u8]) -> Result<bool, InfoError>
     ensures first { IfOk result (λ found. IsFirst (line_says InfoKind.NoVersion version_of line.now) found) }
     ensures line { (n : _) (kind : _) → IsErrOf result (InfoError.Bad n kind) → n ≡ number }
-    ensures bad { (n : _) (kind : _) → IsErrOf result (InfoError.Bad n kind) → IsBadFirst (line_says InfoKind.NoVersion version_of line.now) kind }
+    ensures bad { (n : _) (kind : _) → IsErrOf result (InfoError.Bad n kind) →
+        IsBadFirst (line_says InfoKind.NoVersion version_of line.now) kind }
 {
     let text = content(line);
     if is_skipped(text) {
@@ -36,9 +37,11 @@ fn read_first(number: u32, line: &[u8]) -> Result<bool, InfoError>
 #[tactic(auto, using(crate::proofs::TaskLemmas::firsts), unfolding(crate::specs::TaskText::tasks))]
 fn skip_version(text: &[u8]) -> Result<(u32, Option<&[u8]>), InfoError>
     requires short { length text.now ≤ 65536 }
-    ensures rest { IfOk result (λ p. tasks text.now ≡ read_lines InfoKind.BadLine task_of p.0 256 (option_map_or (λ left. parts 10 left.now) p.1 [])) }
+    ensures rest { IfOk result (λ p. tasks text.now
+        ≡ read_lines InfoKind.BadLine task_of p.0 256 (option_map_or (λ left. parts 10 left.now) p.1 [])) }
     ensures bounded { IfOk result (λ p. p.0 + option_map_or (λ left. length left.now + 1) p.1 0 ≤ 65538) }
-    ensures bad { (line : _) (kind : _) → IsErrOf result (InfoError.Bad line kind) → tasks text.now ≡ Fails line kind }
+    ensures bad { (line : _) (kind : _) → IsErrOf result (InfoError.Bad line kind) →
+        tasks text.now ≡ Fails line kind }
 {
     let mut number = 1;
     let mut rest = Some(text);
@@ -57,10 +60,12 @@ fn skip_version(text: &[u8]) -> Result<(u32, Option<&[u8]>), InfoError>
 /// Adds what a line of fastboot-info.txt says.
 #[tactic(auto, unfolding(crate::specs::TaskText::task_of))]
 fn read_line(number: u32, line: &[u8], list: &mut Tasks) -> Result<(), InfoError>
-    ensures added { OnOk result (Added (line_says InfoKind.BadLine (task_of number) line.now) list.old list.new) }
+    ensures added { OnOk result (Added (line_says InfoKind.BadLine (task_of number) line.now) list.old
+        list.new) }
     ensures most { length list.old ≤ 256 → OnOk result (length list.new ≤ 256) }
     ensures line { (n : _) (kind : _) → IsErrOf result (InfoError.Bad n kind) → n ≡ number }
-    ensures bad { (n : _) (kind : _) → IsErrOf result (InfoError.Bad n kind) → IsBad (line_says InfoKind.BadLine (task_of number) line.now) list.old kind }
+    ensures bad { (n : _) (kind : _) → IsErrOf result (InfoError.Bad n kind) →
+        IsBad (line_says InfoKind.BadLine (task_of number) line.now) list.old kind }
 {
     let text = content(line);
     if is_skipped(text) {
@@ -90,7 +95,8 @@ pub fn read_tasks(alloc: Global, text: &[u8]) -> Result<Tasks, InfoError>
     requires short { length text.now ≤ 65536 }
     ensures list { IfOk result (λ list. tasks text.now ≡ Lists list) }
     ensures most { IfOk result (λ list. length list ≤ 256) }
-    ensures bad { (line : _) (kind : _) → IsErrOf result (InfoError.Bad line kind) → tasks text.now ≡ Fails line kind }
+    ensures bad { (line : _) (kind : _) → IsErrOf result (InfoError.Bad line kind) →
+        tasks text.now ≡ Fails line kind }
 {
     let (mut number, mut rest) = skip_version(text)?;
     let mut list = Tasks::new(alloc);
