@@ -1,5 +1,5 @@
 -- What a question and a download leave, as a host above the typed states knows it.
-use Rattle.std.proofs.Common.{◌≡◌, ◌⊎◌, inl, inr, ℕ, ◌+◌, ◌^◌, ◌<◌, ◌≤◌, true, false, List, ◌++◌, length, Option, Some, None, refl, sym, ap, ◌∙◌, subst, arith, length-append}
+use Rattle.std.proofs.Common.{◌≡◌, ◌⊎◌, inl, inr, ℕ, ◌+◌, ◌-◌, ◌^◌, ◌<◌, ◌≤◌, true, false, List, ◌++◌, length, Option, Some, None, refl, sym, ap, ◌∙◌, subst, arith, length-append}
 use Rattle.std.specs.Prelude.{codes, nat_le, nat_lt, IsTrue}
 use Rattle.std.proofs.lemmas.Bool.Decides.{nat_tests}
 use Rattle.fb_frame.specs.Causes.{Rose}
@@ -20,7 +20,7 @@ use Rattle.wire_told.specs.FirstPath.{is_first_question, is_first_path, PassesFi
 use Rattle.wire_told.specs.Peers.{Peer, Apart, Joined, OfLink, OnLink, OffLink}
 use Rattle.wire_told.specs.Ports.{PortTold, OpensAt}
 use Rattle.wire_told.specs.Turns.{CommandTest}
-use Rattle.wire_told.specs.Told.{Passes}
+use Rattle.wire_told.specs.Told.{Heard, Passes}
 use Rattle.wire_told.proofs.ExchangeLemmas.{Free-for, FreeFor-next, FreeFor-wrote, FreeFor-heard, FreeFor-less, FreeFor-opened, Loads-wrote, said-open}
 use Rattle.wire_told.proofs.NextLemmas.{Stays-heard, Stays-trans}
 use Rattle.wire_told.proofs.PortLemmas.{Kept-trans}
@@ -112,8 +112,23 @@ Passes-question test name a first q f = λ p e. passes-by test (GetVar name) p f
 pub Passes-download : (test : CommandTest) (n : ℕ) (a : Option Peer) → PassesFirst test → Free a → CommandPasses test a (Download n)
 Passes-download test n a first f = λ p e. passes-by test (Download n) p first (λ loaded. refl) (command_again (Download n) p e) a f
 
-pub ruleset asks = (Stays-asked, FreeFor-asked, Passes-question)
+-- after a download in one frame
+pub FreeFor-loaded : (n m : ℕ) (a b : Seen) (p x : List ℕ) (c d : Option Peer) (spare : ℕ) → FreeFor (4104 + (8 + length p + spare)) a.port.peer → Concluded (Download n) a b (Load m) → Wrote b.port.peer c p → Heard c d x → FreeFor spare d
+FreeFor-loaded n m a b p x c d spare f k w h =
+    FreeFor-heard spare x c d (FreeFor-wrote spare p b.port.peer c (FreeFor-begun n m a b (8 + length p + spare) f k) w) h
 
-pub ruleset downloads = (Stays-begun, Stays-wrote, Stays-heard, Stays-trans, Kept-trans, FreeFor-begun, FreeFor-wrote, FreeFor-heard, Loads-wrote, Passes-download)
+-- Two questions and a download, one after the other, of a connection that began.
+pub first-free : (a b c : Option Peer) → OpensAt a b → ((spare : ℕ) → FreeFor (4104 + spare) b → FreeFor spare c) → FreeFor (2 ^ 60 + 200000) c
+first-free a b c o f = f (2 ^ 60 + 200000) (FreeFor-less (2 ^ 61 - 4) (4104 + (2 ^ 60 + 200000)) b (omega arith) (FreeFor-opened a b o))
 
-pub ruleset calls = (Stays-opened, Stays-trans, Kept-trans, Free-for, FreeFor-opened, FreeFor-less)
+pub second-free : (b c : Option Peer) → FreeFor (2 ^ 60 + 200000) b → ((spare : ℕ) → FreeFor (4104 + spare) b → FreeFor spare c) → FreeFor (2 ^ 60 + 100000) c
+second-free b c q f = f (2 ^ 60 + 100000) (FreeFor-less (2 ^ 60 + 200000) (4104 + (2 ^ 60 + 100000)) b (omega arith) q)
+
+pub last-free : (n : ℕ) (b c : Option Peer) → n ≤ 65536 → FreeFor (2 ^ 60 + 100000) b → ((spare : ℕ) → FreeFor (4104 + (8 + n + spare)) b → FreeFor spare c) → FreeFor (2 ^ 60) c
+last-free n b c h q f = f (2 ^ 60) (FreeFor-less (2 ^ 60 + 100000) (4104 + (8 + n + 2 ^ 60)) b (omega (arith, h)) q)
+
+pub ruleset asks = (Stays-asked)
+
+pub ruleset downloads = (counted, Stays-begun, Stays-wrote, Stays-heard, Stays-trans, Kept-trans, Loads-wrote)
+
+pub ruleset calls = (Stays-opened, Stays-trans, Kept-trans)

@@ -15,7 +15,7 @@ use fb_message::command::Command;
 
 /// Asks for a variable, and goes on where it is told.
 #[tactic(auto, using(crate::proofs::CallerLemmas::asks))]
-fn ask<P: Port, S: Sink>(ready: Ready<P>, name: &[u8], shown: &mut S) -> Option<Ready<P>>
+fn ask<P: Port + Drop, S: Sink>(ready: Ready<P>, name: &[u8], shown: &mut S) -> Option<Ready<P>>
     requires free { Free (P.told ready).peer }
     requires question { IsTrue (is_first_question name.now) }
     requires short { length name.now ≤ 4089 }
@@ -32,7 +32,7 @@ fn ask<P: Port, S: Sink>(ready: Ready<P>, name: &[u8], shown: &mut S) -> Option<
 
 /// Downloads the bytes in one frame.
 #[tactic(auto, using(crate::proofs::CallerLemmas::downloads))]
-fn download<P: Port, S: Sink>(ready: Ready<P>, bytes: &[u8], shown: &mut S) -> Option<Ready<P>>
+fn download<P: Port + Drop, S: Sink>(ready: Ready<P>, bytes: &[u8], shown: &mut S) -> Option<Ready<P>>
     requires free { Free (P.told ready).peer }
     requires some { 0 < length bytes.now }
     requires small { length bytes.now ≤ 65536 }
@@ -40,7 +40,8 @@ fn download<P: Port, S: Sink>(ready: Ready<P>, bytes: &[u8], shown: &mut S) -> O
     ensures stays { IfSome result (λ next. Stays (P.told ready).peer (P.told next).peer) }
     ensures loaded { IfSome result (λ next. OfLink (λ w. w.loaded ≡ Some bytes.now) (P.told next).peer) }
     ensures free { IfSome result (λ next. (spare : ℕ) →
-        FreeFor (4104 + (8 + length bytes.now + spare)) (P.told ready).peer → FreeFor spare (P.told next).peer) }
+        FreeFor (4104 + (8 + length bytes.now + spare)) (P.told ready).peer →
+        FreeFor spare (P.told next).peer) }
 {
     let sending = match ready.command(&Command::Download(bytes.len() as u32), shown) {
         Answer::Load(sending) => sending,
@@ -57,7 +58,7 @@ fn download<P: Port, S: Sink>(ready: Ready<P>, bytes: &[u8], shown: &mut S) -> O
 
 /// Begins a connection, asks twice and downloads the bytes.
 #[tactic(auto, using(crate::proofs::CallerLemmas::calls))]
-pub(crate) fn load<P: Port, S: Sink>(port: P, bytes: &[u8], shown: &mut S) -> Option<Ready<P>>
+pub(crate) fn load<P: Port + Drop, S: Sink>(port: P, bytes: &[u8], shown: &mut S) -> Option<Ready<P>>
     requires aimed { IsTrue (P.told port).aimed }
     requires sound { Sound (P.told port).peer }
     requires some { 0 < length bytes.now }
@@ -72,5 +73,6 @@ pub(crate) fn load<P: Port, S: Sink>(port: P, bytes: &[u8], shown: &mut S) -> Op
     };
     let ready = ask(ready, b"slot-count", shown)?;
     let ready = ask(ready, b"max-download-size", shown)?;
-    download(ready, bytes, shown)
+    let next = download(ready, bytes, shown)?;
+    Some(next)
 }
