@@ -19,7 +19,7 @@ use Rattle.wire_told.specs.Answered.{ends_well, reply_frames, IsAnswered, IsList
 use Rattle.wire_told.proofs.OneFrames.{goes-whole, paid_by, IsBroken}
 use Rattle.wire_told.proofs.ToldLemmas.{idle-frame}
 use Rattle.wire_told.proofs.AnswerLemmas.{broken-out, paid-done, answered-adds}
-use Rattle.wire_told.proofs.RepliedLemmas.{failed-now}
+use Rattle.wire_told.proofs.FailedLemmas.{failed-now}
 use Rattle.wire_model.proofs.ValidReplies.{says_replies}
 use Rattle.wire_told.proofs.HearingLemmas.{same-replies}
 

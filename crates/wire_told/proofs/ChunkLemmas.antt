@@ -57,10 +57,6 @@ HungUp-chunk k l left p (Some (Joined w)) (Some (Apart dev)) s some h small g =
     let d = due-of left w (omega arith) s in
     data-left (Rose k l) 0 d.count d.got p some (omega (arith, h, d.all)) small w dev (due-receiving left w s d) g
 
-pub ruleset chunk_frame = (MaySend-chunk-head, MaySend-chunk)
-
-pub ruleset chunk_step = (Wrote-chunk, Downloading-less, HungUp-chunk)
-
 -- The end of a download.
 pub Listening-okay : (n : ℕ) (a : Option Peer) → n < 10000 → Downloading 0 a → Listening n a
 Listening-okay n a h s = of-of (IsSending 0) (IsListening n) (λ w p. sent-okay n w h p) a s

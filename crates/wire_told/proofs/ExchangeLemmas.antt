@@ -24,6 +24,7 @@ use Rattle.wire_told.proofs.Lifted.{of-of, of-on, on-on}
 use Rattle.wire_told.proofs.OneFrames.{length-frame, paid_by, IsBroken, goes-same, goes-whole}
 use Rattle.wire_told.proofs.ToldLemmas.{idle-frame}
 use Rattle.wire_told.proofs.AnswerLemmas.{answered-adds}
+use Rattle.wire_told.proofs.RepliesLemmas.{awaited-plain}
 
 -- a list of one has no front
 only-last : (infos : List Reply) (end one : Reply) → infos ++ end ∷ [] ≡ one ∷ [] → end ≡ one
@@ -41,14 +42,6 @@ no-load (Load count) e = absurd cc
 starts-plain : (infos : List Reply) (end : Reply) → list_all is_line infos ≡ true → IsNoLoad end → StartsPlain (infos ++ end ∷ [])
 starts-plain [] end l n = n
 starts-plain (r ∷ infos) end l n = no-load r (both (is_line r) (list_all is_line infos) l).0
-
-awaited-plain : (replies : List Reply) (w : Wire) → StartsPlain replies → awaited replies w ≡ w
-awaited-plain [] w s = refl
-awaited-plain (Okay text ∷ replies) w s = refl
-awaited-plain (Fail text ∷ replies) w s = refl
-awaited-plain (Info text ∷ replies) w s = refl
-awaited-plain (Text text ∷ replies) w s = refl
-awaited-plain (Load count ∷ replies) w s = absurd s
 
 same-closed : (b : Bool) (x y : Wire) → x.closed ≡ y.closed → (cond b x y).closed ≡ y.closed
 same-closed true x y e = e
@@ -139,7 +132,7 @@ open-next : (broke : Type 0) (c : CommandValue) (p : List ℕ) (end : Reply) (sp
 open-next broke c p end spare e h still unfailed w u f (inl x) = record { running = x.closed ∙ still w; bounded = omega (arith, f.bounded, x.taken p e, length-frame p, h) }
 open-next broke c p end spare e h still unfailed w u f (inr x) = absurd (unfailed x.1.told)
 
--- and behind a command that leaves it open it is free for less
+-- after a command that leaves it open it is free for less
 pub FreeFor-next : (c : CommandValue) (a b : PortTold) (p : List ℕ) (end : Reply) (spare : ℕ) → spelling c ≡ Some p → length p ≤ 4096 → ((w : Wire) → (said_to c w).closed ≡ false) → (end ≡ Fail (codes "disk fault") → ⊥) → FreeFor (4104 + spare) a.peer → Exchanged c a b (Some end) → FreeFor spare b.peer
 FreeFor-next c a b p end spare e h still unfailed f x =
     of-on (IsFreeFor (4104 + spare)) (IsExchanged (Rose a.faults b.faults) c end) (IsFreeFor spare) (open-next (Rose a.faults b.faults) c p end spare e h still unfailed) a.peer b.peer f x

@@ -1,5 +1,5 @@
 -- What may follow from bytes, with a cause for what the disk does.
-use Rattle.std.proofs.Common.{◌≡◌, ◌⊎◌, inl, inr, ℕ, List, [], ◌++◌, refl, sym, ap, ◌∙◌, append-nil}
+use Rattle.std.proofs.Common.{◌≡◌, ◌⊎◌, inl, inr, ℕ, List, [], ◌++◌, refl, sym, ap, ◌∙◌}
 use Rattle.wire_model.specs.Wire.{Wire, after}
 use Rattle.wire_model.specs.Halts.{Faults, Goes}
 use Rattle.wire_told.specs.Turns.{IsSettled}
@@ -42,15 +42,6 @@ pub goes-weaker : (broke more : Type 0) → (broke → more) → (w v : Wire) (b
 unfolding GoesBy
 goes-weaker broke more c w v bytes g = weaker broke more c w v bytes g
 
-calm : (broke : Type 0) → (broke → ⊥) → (w v : Wire) (bytes : List ℕ) → (v ≡ after w bytes) ⊎ (broke × Faults w bytes v) → v ≡ after w bytes
-calm broke n w v bytes (inl e) = e
-calm broke n w v bytes (inr f) = absurd (n f.0)
-
--- without a cause the bytes lead to the state after them
-pub goes-calm : (broke : Type 0) → (broke → ⊥) → (w v : Wire) (bytes : List ℕ) → GoesBy broke w bytes v → v ≡ after w bytes
-unfolding GoesBy
-goes-calm broke n w v bytes g = calm broke n w v bytes g
-
 pub goes-after : (broke : Type 0) (w : Wire) (bytes : List ℕ) → GoesBy broke w bytes (after w bytes)
 unfolding GoesBy
 goes-after broke w bytes = inl refl
@@ -59,7 +50,3 @@ goes-after broke w bytes = inl refl
 pub goes-nothing : (broke : Type 0) (w : Wire) → IsSettled w → GoesBy broke w [] w
 unfolding GoesBy
 goes-nothing broke w e = inl (sym e)
-
--- every state that bytes led to is settled
-pub after-settled : (w : Wire) (bytes : List ℕ) → IsSettled (after w bytes)
-after-settled w bytes = in_parts w bytes [] ∙ ap (after w) (append-nil bytes)

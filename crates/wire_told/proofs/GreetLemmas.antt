@@ -1,4 +1,4 @@
--- The handshakes, and what is idle behind them and behind a command.
+-- The handshakes, and what is idle after them and after a command.
 use Rattle.std.proofs.Common.{◌≡◌, ◌≢◌, ◌⊎◌, inl, inr, ℕ, ◌+◌, ◌^◌, ◌<◌, ◌≤◌, true, false, List, [], ◌++◌, length, take, drop, Option, Some, None, refl, sym, ap, ◌∙◌, subst, arith, length-drop, take-append-drop, take_all}
 use Rattle.std.specs.Prelude.{nat_lt}
 use Rattle.std.proofs.lemmas.Bool.Decides.{nat_tests}
@@ -7,9 +7,9 @@ use Rattle.dev_model.specs.declared.device.Dev.{Dev}
 use Rattle.fb_frame.specs.Causes.{Rose}
 use Rattle.wire_told.specs.Peers.{Peer, Apart, Joined, OfLink, OnLink, OffLink}
 use Rattle.wire_model.specs.Wire.{Wire, Command, fresh}
-use Rattle.wire_told.specs.Told.{GoesBy, Sent, IsLeft, LeftBy, Heard, HungUp, Lost, Connected, OneShake, IsIdle, Idle, Begun, Greeted, Opened, Gives}
+use Rattle.wire_told.specs.Told.{GoesBy, Sent, IsLeft, LeftBy, Heard, HungUp, Lost, Connected, OneShake, IsIdle, Begun, Greeted, Opened, Gives}
 use Rattle.wire_told.specs.Answered.{Stays}
-use Rattle.wire_told.proofs.Lifted.{of-of, of-on, with-on, on-then, on-hung}
+use Rattle.wire_told.proofs.Lifted.{of-on, with-on, on-then, on-hung}
 use Rattle.wire_model.proofs.InParts.{told}
 use Rattle.wire_told.proofs.OneShakes.{shake-whole, shake-same, shaken, fresh-shake}
 use Rattle.wire_told.proofs.ToldLemmas.{MaySend-greeting, front-same}
@@ -20,7 +20,7 @@ IsFresh w = w ≡ fresh w.device
 shake-here : (w : Wire) → IsFresh w → OneShake (handshake 1) w
 shake-here w f = subst (OneShake (handshake 1)) (sym f) (fresh-shake w.device)
 
--- behind the handshake
+-- after the handshake
 behind : (broke : Type 0) (bytes : List ℕ) → bytes ≡ handshake 1 → (w v : Wire) → IsFresh w → GoesBy broke w bytes v → v ≡ shaken 4 w
 behind broke bytes e w v f g = shake-whole broke (handshake 1) w v (shake-here w f) (subst (λ t. GoesBy broke w t v) e g)
 
@@ -82,7 +82,7 @@ none-on R f (Some (Joined w)) None r = absurd r
 none-on R f (Some (Joined w)) (Some (Apart dev)) r = absurd r
 none-on R f (Some (Joined w)) (Some (Joined v)) r = absurd (f w v r)
 
--- and none is told behind it
+-- and none is told after it
 pub gone-greeting : (k l : ℕ) (a b c : Option Peer) (bytes four : List ℕ) → Begun a → bytes ≡ handshake 1 → Sent k l a b bytes → Heard b c four → length four ≡ 4 → four ≢ handshake 1 → c ≡ None
 gone-greeting k l a b c bytes four i e g h n ne =
     none-on (λ w v. four ≡ handshake 1) (λ w v q. ne q) a c
@@ -140,7 +140,7 @@ Stays-connected (Some p) (Some (Joined w)) c = ap (λ (u : Wire). u.device) c.1
 
 pub ruleset greets = (MaySend-greeting, Gives-greeting, Greeted-from, untold-greeting, gone-greeting, Lost-greeting, Lost-greeted)
 
--- behind the handshakes a connection is idle
+-- after the handshakes a connection is idle
 idle-greeted : (spare : ℕ) → spare + 4 < 2 ^ 62 → (w v : Wire) → IsFresh w → v ≡ record w { phase = Command; rest = []; taken = w.taken + 4; out = [] } → IsIdle spare v
 idle-greeted spare h w v f e = record {
   running = ap (λ (x : Wire). x.closed) e ∙ ap (λ (x : Wire). x.closed) f;
@@ -149,15 +149,6 @@ idle-greeted spare h w v f e = record {
   rest = ap (λ (x : Wire). x.rest) e;
   bounded = omega (arith, h, ap (λ (x : Wire). x.taken) e, ap (λ (x : Wire). x.taken) f);
 }
-
-pub Idle-greeted : (spare : ℕ) (a b : Option Peer) → spare + 4 < 2 ^ 62 → Begun a → Greeted a b → Idle spare b
-Idle-greeted spare a b h i g =
-    of-on IsFresh (λ w v. v ≡ record w { phase = Command; rest = []; taken = w.taken + 4; out = [] }) (IsIdle spare) (idle-greeted spare h) a b i g
-
--- with less to come it is idle too
-pub Idle-less : (more spare : ℕ) (a : Option Peer) → spare ≤ more → Idle more a → Idle spare a
-Idle-less more spare a h i =
-    of-of (IsIdle more) (IsIdle spare) (λ w p. record { running = p.running; quiet = p.quiet; commanding = p.commanding; rest = p.rest; bounded = omega (arith, h, p.bounded) }) a i
 
 pub Opened-from : (spare : ℕ) (a b c : Option Peer) → spare + 4 < 2 ^ 62 → Connected a b → Greeted b c → Opened spare a c
 Opened-from spare None None None h c g = tt
@@ -169,13 +160,6 @@ Opened-from spare (Some p) (Some (Joined w)) None h c g = absurd g
 Opened-from spare (Some p) (Some (Joined w)) (Some (Apart dev)) h c g = absurd g
 Opened-from spare (Some p) (Some (Joined w)) (Some (Joined v)) h c g =
     (ap (λ (u : Wire). u.device) g ∙ ap (λ (u : Wire). u.device) c.1, idle-greeted spare h w v (c.1 ∙ ap (λ (u : Wire). fresh u.device) (sym c.1)) g)
-
-pub Opened-idle : (spare : ℕ) (a b : Option Peer) → Opened spare a b → Idle spare b
-Opened-idle spare None None o = tt
-Opened-idle spare None (Some q) o = absurd o
-Opened-idle spare (Some p) None o = absurd o
-Opened-idle spare (Some p) (Some (Apart dev)) o = absurd o
-Opened-idle spare (Some p) (Some (Joined w)) o = o.1
 
 -- what ended a connection that had just begun left the device as it was
 pub HungUp-lost : (a b c : Option Peer) → Connected a b → Lost b c → HungUp a c

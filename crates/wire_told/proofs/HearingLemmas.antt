@@ -90,7 +90,7 @@ next-of n (r ∷ rs) w extra d e f = record {
 pub listening-next : (n : ℕ) (w : Wire) → IsListening n w → IsNext w
 listening-next n w l = next-of n l.more w l.extra l.due l.ends l.fits
 
--- behind a line others are left
+-- after a line others are left
 line-heard : (n : ℕ) (more : List Reply) (extra : List ℕ) (r : Reply) (w v : Wire) → w.out ≡ reply_frames more ++ extra → ends_well more ≡ true → list_all reply_fits more ≡ true → n + length more ≤ 10000 →
     reply_fits r ≡ true → is_line r ≡ true → w ≡ record v { out = frame (reply_bytes r) ++ v.out } → IsListening (n + 1) v
 line-heard n [] extra r w v d e f k g l h = absurd cc

@@ -8,11 +8,9 @@ pub mod AnswerLemmas
 pub mod DataLemmas
 pub mod KeptLemmas
 pub mod GreetLemmas
-pub mod BehindLemmas
 pub mod RepliesLemmas
 pub mod TellLemmas
-pub mod FirstLemmas
-pub mod RepliedLemmas
+pub mod FailedLemmas
 pub mod HearingLemmas
 pub mod NextLemmas
 pub mod AnsweredLemmas
@@ -20,4 +18,3 @@ pub mod StateLemmas
 pub mod ChunkLemmas
 pub mod PortLemmas
 pub mod ExchangeLemmas
-pub mod OwedLemmas

@@ -1,5 +1,5 @@
 -- The next reply, head and text.
-use Rattle.std.proofs.Common.{◌≡◌, ℕ, ◌+◌, ◌^◌, ◌<◌, ◌≤◌, true, List, ◌++◌, length, take, Option, Some, None, refl, sym, ap, ◌∙◌, subst, arith, append_assoc, length-append, length-take}
+use Rattle.std.proofs.Common.{◌≡◌, ℕ, ◌+◌, ◌^◌, ◌<◌, ◌≤◌, true, List, ◌++◌, length, Option, Some, None, refl, sym, ap, ◌∙◌, subst, arith, append_assoc, length-append}
 use Rattle.std.specs.Int.{w64, from_be_bytes}
 use Rattle.std.proofs.lemmas.Nat.{from_be_bytes-to_be_bytes_8}
 use Rattle.fb_frame.specs.Framing.{head, frame}
@@ -51,11 +51,6 @@ pub untold-large : (a b : Option Peer) (n : ℕ) → HeardHead a b n → Sized b
 unfolding HeardHead
 untold-large a b n h o l = heard-none a b (head n) h (of-none (IsSized n) (λ w p. absurd (omega (arith, l, p.short))) b o)
 
--- Whether a told device stays as it was.
-pub Stays-same : (a : Option Peer) → Stays a a
-Stays-same None = tt
-Stays-same (Some p) = refl
-
 pub Stays-trans : (a b c : Option Peer) → Stays a b → Stays b c → Stays a c
 Stays-trans None None c p q = q
 Stays-trans None (Some b) c p q = absurd p
@@ -91,7 +86,7 @@ Stays-none None None e f = tt
 Stays-none None (Some b) e f = absurd cc
 Stays-none (Some a) b e f = absurd cc
 
--- hanging up behind calls that left the device
+-- hanging up after calls that left the device
 pub HungUp-stays : (a b c : Option Peer) → Stays a b → HungUp b c → HungUp a c
 HungUp-stays None None c s h = h
 HungUp-stays None (Some b) c s h = absurd s
@@ -134,14 +129,7 @@ pub untold-read : (a b : Option Peer) (text : List ℕ) → Next a → HeardRepl
 unfolding HeardReply
 untold-read a b text t h short e = told-none IsNext (λ w v. w ≡ record v { out = frame text ++ v.out }) (unread text short e) a b t h
 
-pub untold-part : (a b : Option Peer) (buf : List ℕ) (n : ℕ) → Next a → HeardReply a b (take n buf) → n ≤ 256 → reply_of (take n buf) ≡ None → a ≡ None
-untold-part a b buf n t h short e = untold-read a b (take n buf) t h (omega (arith, short, length-take n buf)) e
-
-pub untold-reply : (a b : Option Peer) (reply : List ℕ) → HeardReply a b reply → b ≡ None → a ≡ None
-unfolding HeardReply
-untold-reply a b reply h e = heard-none a b (frame reply) h e
-
--- behind a line others are left
+-- after a line others are left
 pub Listening-more : (n : ℕ) (a b : Option Peer) (r : Reply) → Listening n a → reply_fits r ≡ true → is_line r ≡ true → HeardReply a b (reply_bytes r) → Listening (n + 1) b
 unfolding HeardReply
 Listening-more n a b r l f i h = of-on (IsListening n) (λ w v. w ≡ record v { out = frame (reply_bytes r) ++ v.out }) (IsListening (n + 1)) (λ w v p q. listening-more n r w v p f i q) a b l h
@@ -150,13 +138,3 @@ pub untold-many : (a : Option Peer) → Listening 10000 a → a ≡ None
 untold-many a l = of-none (IsListening 10000) listening-end a l
 
 pub ruleset next_head = (Gives-next, Sized-from, Stays-hung, Stays-none)
-
-pub ruleset next_text = (Gives-sized, untold-small, untold-large, Stays-head, Stays-hung, Stays-trans, Stays-none)
-
-pub ruleset next_reply = (read-fits, Heard-read, Appended-read, untold-part, Stays-reply)
-
-pub ruleset next_loop = (Next-from, Listening-more, untold-many)
-
-pub ruleset next_hung = (HungUp-stays)
-
-pub ruleset begins_not = (Stays-hung, Stays-none, HungUp-stays)

@@ -62,7 +62,7 @@ whole-front-frame p bytes w o =
 pub after-inside : (p x y : List ℕ) (w : Wire) → OneFrame p (x ++ y) w → 0 < length y → after w x ≡ joined x w
 after-inside p x y w o due = after_part w x o.running (omega (arith, o.bounded, length-append x y)) (part-lacks p x y w o due)
 
--- what is still to come behind a part
+-- what is still to come after a part
 pub frame-rest : (p x y : List ℕ) (w : Wire) → OneFrame p (x ++ y) w → 0 < length y → OneFrame p y (joined x w)
 frame-rest p x y w o due = record {
   running = o.running;
@@ -84,10 +84,6 @@ joined-nothing w =
 
 pub frame-settled : (p bytes : List ℕ) (w : Wire) → OneFrame p bytes w → IsSettled w
 frame-settled p bytes w o = after-inside p [] bytes w o o.due ∙ joined-nothing w
-
--- no fault inside a frame
-some-first : {A : Type 0} (x y : A) → Some x ≡ Some y → x ≡ y
-some-first x y e = cc
 
 no-fault-inside : (p x y : List ℕ) (w v : Wire) → OneFrame p (x ++ y) w → 0 < length y → Faults w x v → ⊥
 no-fault-inside p x y w v o due f =
@@ -147,7 +143,7 @@ broken-end p before behind last w v o f due =
     no-fault-inside p (before ++ last ∷ []) behind w v (subst (λ b. OneFrame p b w) e o) due
     (record { before = before; last = last; behind = []; split = refl; fault = f })
 
--- a payload and nothing behind it
+-- a payload and nothing after it
 abbrev alone : List ℕ → Option (Item × List ℕ)
 alone p = Some (Payload p, [])
 

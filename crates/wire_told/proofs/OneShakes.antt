@@ -64,7 +64,7 @@ greeting four = Some (Greeting four, [])
 whole-front : (bytes : List ℕ) (w : Wire) → OneShake bytes w → front w.phase (w.rest ++ bytes) ≡ greeting (handshake 1)
 whole-front bytes w o = shaking-front w.phase (w.rest ++ bytes) o.shaking ∙ ap (front Shake) o.whole
 
--- the state behind a handshake
+-- the state after a handshake
 abbrev pub shaken : ℕ → Wire → Wire
 shaken n w = record w { phase = Command; rest = []; taken = w.taken + n }
 

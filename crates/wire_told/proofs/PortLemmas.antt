@@ -12,8 +12,8 @@ use Rattle.wire_told.specs.Places.{Place, Stands, KeepsOthers, Appended}
 use Rattle.wire_told.specs.Turns.{CommandTest}
 use Rattle.wire_told.specs.Told.{MaySend, Gives, IsHead}
 use Rattle.wire_told.specs.Answered.{Next}
-use Rattle.wire_told.specs.Ports.{PortTold, Kept, AppendedFront, Sends, SendFails, Hears, HearsHead, HearsReply, AppendedPart, Misses, Ends, Drops}
-use Rattle.wire_told.proofs.ToldLemmas.{MaySend-head, MaySend-payload, Sent-nothing, Sent-append, Sent-more, LeftBy-more, Sent-frame, LeftBy-head, LeftBy-payload, Heard-nothing, Heard-more, Heard-head, Heard-text, HungUp-more, heard-none, not-at-end}
+use Rattle.wire_told.specs.Ports.{PortTold, Kept, AppendedFront, Sends, SendFails, Hears, HearsHead, HearsReply, Misses, Ends, Drops}
+use Rattle.wire_told.proofs.ToldLemmas.{MaySend-head, MaySend-payload, Sent-nothing, Sent-append, LeftBy-more, LeftBy-head, LeftBy-payload, Heard-nothing, Heard-more, Heard-head, Heard-text, HungUp-more, heard-none, not-at-end}
 use Rattle.wire_told.proofs.NextLemmas.{Sized-from, Stays-hung, Stays-trans, Stays-heard, Heard-read, Appended-read}
 use Rattle.wire_told.proofs.ChunkLemmas.{MaySend-chunk-head, MaySend-chunk}
 use Rattle.wire_told.proofs.KeptLemmas.{Appended-nothing, Appended-append, Appended-more, Appended-head, Appended-text}
@@ -205,8 +205,6 @@ HearsReply-from a b c text behind n f g e u = record {
   unended = u ∙ f.unended;
 }
 
-pub ruleset port_text = (HearsReply-from)
-
 pub HearsReply-read : (a b : PortTold) (text : List ℕ) (r : Reply) → HearsReply a b text → reply_of text ≡ Some r → HearsReply a b (reply_bytes r)
 HearsReply-read a b text r f e = record {
   up = f.up;
@@ -216,5 +214,3 @@ HearsReply-read a b text r f e = record {
   log = f.log;
   unended = f.unended;
 }
-
-pub ruleset port_reply = (HearsReply-read)

@@ -45,7 +45,7 @@ nothing-left x (b ∷ y) e = absurd (omega (arith, ap length e, length-append x 
 answered-plain : (said : Said) (w : Wire) → StartsPlain said.replies → answered said w ≡ record (with_replies said.replies w) { device = said.device; loaded = said.loaded; closed = said.closed }
 answered-plain said w s = awaited-plain said.replies (record (with_replies said.replies w) { device = said.device; loaded = said.loaded; closed = said.closed }) s
 
--- the device of the state behind a heard answer is one that there can be
+-- the device of the state after a heard answer is one that there can be
 heard-valid : (broke : Type 0) (bytes x : List ℕ) (w v u : Wire) → IsValid w.device → GoesBy broke w bytes v → v ≡ record u { out = x ++ u.out } → IsValid u.device
 heard-valid broke bytes x w v u valid g e =
     let P : Dev → Type 0 = λ d. IsValid d in
@@ -72,7 +72,7 @@ between-by broke spare p infos end w u l k i valid (inr f) = record {
   valid = valid;
 }
 
--- behind OKAY and FAIL a command is awaited
+-- after OKAY and FAIL a command is awaited
 pub between-again : (broke : Type 0) (spare : ℕ) (p : List ℕ) (infos : List Reply) (end : Reply) (w v u : Wire) → list_all is_line infos ≡ true → IsVerdict end → IsIdle spare w → IsValid w.device → GoesBy broke w (frame p) v → v ≡ record u { out = reply_frames (infos ++ end ∷ []) ++ u.out } → IsAnswered broke p (infos ++ end ∷ []) w u → IsBetween u
 between-again broke spare p infos end w v u l k i valid g e a =
     between-by broke spare p infos end w u l k i (heard-valid broke (frame p) (reply_frames (infos ++ end ∷ [])) w v u valid g e) a
@@ -241,9 +241,6 @@ sending-by false spare count p w u e i valid room said state =
 load-not-fail : (count : ℕ) (text : List ℕ) → Load count ≡ Fail text → ⊥
 load-not-fail count text e = cc
 
-load-count : (m n : ℕ) → Load m ≡ Load n → m ≡ n
-load-count m n e = cc
-
 sending-said : (spare count : ℕ) (p : List ℕ) (infos : List Reply) (w u : Wire) → command_of p ≡ Download count → IsIdle spare w → IsValid w.device → w.taken + length (frame p) + 9 * count < 2 ^ 62 → IsSaid p (infos ++ Load count ∷ []) w u → IsBegun count u
 sending-said spare count p infos w u c i valid room s =
     let e : infos ++ Load count ∷ [] ≡ (asked_for w count).replies = s.all ∙ ap (λ x. (says w.device w.loaded x).replies) c in
@@ -386,7 +383,7 @@ finished rs w u s ends fits e =
       },
     )
 
--- DATA ends a download of so many bytes alone
+-- DATA ends a download of its own count alone
 announced-by : (c : CommandValue) (o : Option ℕ) (n : ℕ) → announces c ≡ o → is_announced o n ≡ true → announces c ≡ Some n
 announced-by c None n e f = absurd cc
 announced-by c (Some count) n e f = let h : n ≡ count = grind (arith, nat_tests) in e ∙ ap Some (sym h)

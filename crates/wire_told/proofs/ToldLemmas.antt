@@ -1,8 +1,8 @@
 -- Loops over a port: what its told connection comes to.
-use Rattle.std.proofs.Common.{◌^◌, ◌≡◌, ◌⊎◌, inl, inr, ◌≢◌, ℕ, ◌+◌, ◌-◌, ◌<◌, ◌≤◌, List, [], ◌++◌, length, take, drop, get_or, Option, Some, None, refl, sym, ap, ◌∙◌, subst, arith, append_assoc, append-nil, length-drop, length-take, length-append}
+use Rattle.std.proofs.Common.{◌≡◌, ◌⊎◌, inl, inr, ◌≢◌, ℕ, ◌+◌, ◌-◌, ◌<◌, ◌≤◌, List, [], ◌++◌, length, take, drop, get_or, Option, Some, None, refl, sym, ap, ◌∙◌, subst, arith, append_assoc, append-nil, length-drop, length-take, length-append}
 use Rattle.std.specs.Prelude.{IsTrue}
 use Rattle.std.specs.Int.{w64, to_be_bytes, from_be_bytes}
-use Rattle.std.proofs.lemmas.Nat.{be_bytes_8, from_be_bytes-to_be_bytes_8}
+use Rattle.std.proofs.lemmas.Nat.{be_bytes_8}
 use Rattle.std.proofs.Math.Seq.{take-add, take-length, take-append_seam, drop-append_seam, take-append-add}
 use Rattle.std.proofs.lemmas.List.{drop-drop, take-take, take-append-le, length-take-le, take-append-drop, take_all}
 use borrow.Rule.Slice.PartMut.{put_mid, post_of}
@@ -13,8 +13,8 @@ use Rattle.fb_frame.specs.Causes.{Rose}
 use Rattle.wire_told.specs.Peers.{Peer, Apart, Joined, OfLink, OnLink, OffLink}
 use Rattle.wire_model.specs.Wire.{Wire, Shake, Command, joined, fresh}
 use Rattle.wire_told.specs.Turns.{room, CommandTest, IsTurn, IsSettled}
-use Rattle.wire_told.specs.Told.{GoesBy, Sent, IsLeft, LeftBy, Heard, IsHead, HeardHead, HeardReply, HungUp, InTurn, MayHear, AtEnd, OneFrame, OneShake, OnePassed, OneWhole, IsFront, MaySend, Passes, IsIdle, Idle, Begun, IsAnswering, Answers, Gives, Owes, IsAsked, Asked}
-use Rattle.wire_told.proofs.Lifted.{of-of, of-none, of-both, of-stays, on-on, of-on, on-then, on-off, on-hung, kept-hung}
+use Rattle.wire_told.specs.Told.{GoesBy, Sent, IsLeft, LeftBy, Heard, IsHead, HeardHead, HeardReply, HungUp, InTurn, MayHear, AtEnd, OneFrame, OneShake, OnePassed, OneWhole, IsFront, MaySend, Passes, IsIdle, Idle, Begun, Gives}
+use Rattle.wire_told.proofs.Lifted.{of-of, of-none, of-both, of-stays, of-on, on-then, on-off, on-hung, kept-hung}
 use Rattle.wire_told.proofs.Going.{goes-append, goes-weaker, goes-nothing}
 use Rattle.wire_told.proofs.OneFrames.{length-frame, goes-inside, goes-joined, frame-settled}
 use Rattle.wire_told.proofs.OneShakes.{shake-part, shake-settled, fresh-shake}
@@ -32,11 +32,6 @@ Sent-append k l m i j a b c x y f g =
     on-then (λ w v. GoesBy (Rose k l) w x v) (λ w v. GoesBy (Rose l m) w y v) (λ w v. GoesBy (Rose k m) w (x ++ y) v)
     (λ w u v p q. goes-append (Rose k m) w u v x y (goes-weaker (Rose k l) (Rose k m) (rose-from k l m i j) w u x p) (goes-weaker (Rose l m) (Rose k m) (rose-to k l m i j) u v y q))
     a b c f g
-
--- the count may rise on
-pub Sent-later : (k l m : ℕ) → k ≤ l → l ≤ m → (a b : Option Peer) (x : List ℕ) → Sent k l a b x → Sent k m a b x
-Sent-later k l m i j a b x f =
-    on-on (λ w v. GoesBy (Rose k l) w x v) (λ w v. GoesBy (Rose k m) w x v) (λ w v. goes-weaker (Rose k l) (Rose k m) (rose-from k l m i j) w v x) a b f
 
 whole-settled : (test : CommandTest) (bytes : List ℕ) (w : Wire) → OneWhole test bytes w → IsSettled w
 whole-settled test bytes w (inl o) = frame-settled o.payload bytes w o.one
@@ -115,7 +110,7 @@ left-more k l m i j bytes at len h w u dev g r =
       device = r.device;
     }
 
--- a send that failed behind others
+-- a send that failed after others
 pub LeftBy-more : (k l m : ℕ) → k ≤ l → l ≤ m → (a b c : Option Peer) (bytes : List ℕ) (at len : ℕ) → at ≤ length bytes → Sent k l a b (take at bytes) → LeftBy l m b c (take len (drop at bytes)) → LeftBy k m a c bytes
 LeftBy-more k l m i j a b c bytes at len h g r =
     on-off (λ w v. GoesBy (Rose k l) w (take at bytes) v) (IsLeft (Rose l m) (take len (drop at bytes))) (IsLeft (Rose k m) bytes)
@@ -165,7 +160,7 @@ pub Gives-rest : (b c : Option Peer) (new : List ℕ) (n r m : ℕ) → n ≤ le
 Gives-rest b c new n r m h e f g =
     Gives-more b c (take n new) r (subst (Gives b) (e ∙ ap (λ t. t + r) (sym (length-take-le n new h))) f) g
 
--- a `recv` that failed behind others left the device as it was
+-- a `recv` that failed after others left the device as it was
 pub HungUp-more : (a b c : Option Peer) (bytes : List ℕ) → Heard a b bytes → HungUp b c → HungUp a c
 HungUp-more a b c bytes f g =
     kept-hung (λ w v. w ≡ record v { out = bytes ++ v.out }) (λ w u e. sym (ap (λ (x : Wire). x.device) e)) a b c f g
@@ -243,9 +238,6 @@ MaySend-payload test k l spare a b payload head_bytes i t some h s e g =
     of-on (IsReady test spare payload) (λ w v. GoesBy (Rose k l) w head_bytes v) (IsFront test payload)
     (λ w v p q. payload-front test (Rose k l) payload head_bytes e w v (λ c. p.1) (idle-frame spare payload w p.0 some h s) q) a b (ready test spare payload a i t) g
 
-pub Sent-frame : (k l m : ℕ) → k ≤ l → l ≤ m → (a b c : Option Peer) (payload head_bytes : List ℕ) → head_bytes ≡ to_be_bytes w64 (length payload) → Sent k l a b head_bytes → Sent l m b c payload → Sent k m a c (frame payload)
-Sent-frame k l m i j a b c payload head_bytes e f g = subst (λ t. Sent k m a c (t ++ payload)) e (Sent-append k l m i j a b c head_bytes payload f g)
-
 -- where the head failed, and where the payload did
 left-head : (broke : Type 0) (x y : List ℕ) (w : Wire) (dev : Dev) → IsLeft broke x w dev → IsLeft broke (x ++ y) w dev
 left-head broke x y w dev r = record {
@@ -283,8 +275,6 @@ LeftBy-payload k l m i j a b c payload head_bytes e g r =
     on-off (λ w v. GoesBy (Rose k l) w head_bytes v) (IsLeft (Rose l m) payload) (IsLeft (Rose k m) (frame payload))
     (λ w u dev p q. subst (λ t. IsLeft (Rose k m) (t ++ payload) w dev) e (left-tail k l m i j head_bytes payload w u dev p q)) a b c g r
 
-pub ruleset told_frame = (MaySend-head, MaySend-payload, Sent-frame, LeftBy-head, LeftBy-payload)
-
 -- One reply, head and text.
 pub front-same : (x y a b : List ℕ) → length x ≡ length a → x ++ y ≡ a ++ b → (x ≡ a) × (y ≡ b)
 front-same x y a b l e = (
@@ -292,31 +282,12 @@ front-same x y a b l e = (
   sym (drop-append_seam x y) ∙ (ap (λ n. drop n (x ++ y)) l ∙ (ap (drop (length a)) e ∙ drop-append_seam a b)),
 )
 
-owes : (head_bytes : List ℕ) (n : ℕ) → n < 2 ^ 64 → head_bytes ≡ head n → (w v : Wire) → IsAnswering w → w ≡ record v { out = head_bytes ++ v.out } → (n ≤ 256) × (n ≤ length v.out)
-owes head_bytes n small l w v t h =
-    let e : head_bytes ++ v.out ≡ head (length t.reply) ++ (t.reply ++ t.more) = sym (ap (λ (x : Wire). x.out) h) ∙ (t.left ∙ append_assoc (head (length t.reply)) t.reply t.more) in
-    let f = front-same head_bytes v.out (head (length t.reply)) (t.reply ++ t.more) (ap length l) e in
-    let k : n ≡ length t.reply = sym (from_be_bytes-to_be_bytes_8 n small) ∙ (ap (from_be_bytes w64) (sym l ∙ f.0) ∙ from_be_bytes-to_be_bytes_8 (length t.reply) (omega (arith, t.short))) in
-    (omega (arith, k, t.short), omega (arith, k, ap length f.1, length-append t.reply t.more))
-
--- the head of a reply was heard: its text is owed
-pub Owes-from : (a b : Option Peer) (head_bytes : List ℕ) (n : ℕ) → Answers a → Heard a b head_bytes → IsHead n head_bytes → n < 2 ^ 64 → Owes b n
-unfolding IsHead
-Owes-from a b head_bytes n t h l small =
-    of-on IsAnswering (λ w v. w ≡ record v { out = head_bytes ++ v.out }) (λ w. (n ≤ 256) × (n ≤ length w.out)) (owes head_bytes n small l) a b t h
-
 -- eight bytes are the head of the length that they tell
 pub is-head : (head_bytes : List ℕ) (n : ℕ) → length head_bytes ≡ 8 → ((i : ℕ) → get_or head_bytes i 0 < 256) → n ≡ from_be_bytes w64 head_bytes → IsHead n head_bytes
 unfolding IsHead
 is-head head_bytes n l small e = sym (be_bytes_8 head_bytes n l small e)
 
 pub ruleset heads = (is-head)
-
-pub Gives-head : (a : Option Peer) → Answers a → Gives a 8
-Gives-head a t = of-of IsAnswering (λ w. 8 ≤ length w.out) (λ w p. omega (arith, ap length p.left, length-append (frame p.reply) p.more, length-frame p.reply)) a t
-
-pub Gives-owed : (a : Option Peer) (n : ℕ) → Owes a n → Gives a n
-Gives-owed a n o = of-of (λ w. (n ≤ 256) × (n ≤ length w.out)) (λ w. n ≤ length w.out) (λ w p. p.1) a o
 
 -- a head that was heard is that of the length that it tells
 pub Heard-head : (a b : Option Peer) (head_bytes : List ℕ) (n : ℕ) → Heard a b head_bytes → IsHead n head_bytes → HeardHead a b n
@@ -330,34 +301,10 @@ Heard-text a b c text behind n f g e =
     let whole : take n (text ++ behind) ≡ text = ap (λ k. take k (text ++ behind)) (sym e) ∙ take-append_seam text behind in
     subst (λ t. Heard a c (frame t)) (sym whole) (Heard-append a b c (head (length text)) text (subst (λ k. Heard a b (head k)) (sym e) f) g)
 
--- no told connection owes more than a reply
-pub untold-long : (a b : Option Peer) (n : ℕ) → HeardHead a b n → Owes b n → 256 < n → a ≡ None
-unfolding HeardHead
-untold-long a b n h o l =
-    heard-none a b (head n) h (of-none (λ w. (n ≤ 256) × (n ≤ length w.out)) (λ w p. absurd (omega (arith, l, p.0))) b o)
-
-pub HungUp-head : (a b c : Option Peer) (n : ℕ) → HeardHead a b n → HungUp b c → HungUp a c
-unfolding HeardHead
-HungUp-head a b c n f g = HungUp-more a b c (head n) f g
-
-pub ruleset hear_start = (Owes-from, Gives-head, Heard-head)
-
--- what is told of no connection behind a head was told of none before it
+-- what is told of no connection after a head was told of none before it
 pub untold-head : (a b : Option Peer) (n : ℕ) → HeardHead a b n → b ≡ None → a ≡ None
 unfolding HeardHead
 untold-head a b n f e = heard-none a b (head n) f e
-
-pub ruleset hear_frame = (Gives-owed, Heard-text, untold-long, untold-head, HungUp-head)
-
-asked : (k l m : ℕ) → k ≤ l → l ≤ m → (payload answer : List ℕ) (w v u : Wire) → GoesBy (Rose k l) w (frame payload) v → v ≡ record u { out = frame answer ++ u.out } → IsAsked (Rose k m) payload answer w u
-asked k l m i j payload answer w v u g h = record { state = v; goes = goes-weaker (Rose k l) (Rose k m) (rose-from k l m i j) w v (frame payload) g; heard = h }
-
--- a command was sent and a reply heard, while the count may have risen
-pub Asked-from : (k l m : ℕ) → k ≤ l → l ≤ m → (a b c : Option Peer) (payload answer : List ℕ) → Sent k l a b (frame payload) → HeardReply b c answer → Asked k m a c payload answer
-unfolding HeardReply
-Asked-from k l m i j a b c payload answer g h =
-    on-then (λ w v. GoesBy (Rose k l) w (frame payload) v) (λ w v. w ≡ record v { out = frame answer ++ v.out }) (IsAsked (Rose k m) payload answer)
-    (asked k l m i j payload answer) a b c g h
 
 left-whole : (k l m : ℕ) → k ≤ l → l ≤ m → (x : List ℕ) (w u : Wire) → GoesBy (Rose k l) w x u → IsLeft (Rose k m) x w u.device
 left-whole k l m i j x w u g = record {
@@ -372,18 +319,6 @@ left-whole k l m i j x w u g = record {
 pub LeftBy-heard : (k l m : ℕ) → k ≤ l → l ≤ m → (a b c : Option Peer) (x : List ℕ) → Sent k l a b x → HungUp b c → LeftBy k m a c x
 LeftBy-heard k l m i j a b c x g h =
     on-hung (λ w v. GoesBy (Rose k l) w x v) (IsLeft (Rose k m) x) (left-whole k l m i j x) a b c g h
-
-left-later : (k l m : ℕ) → k ≤ l → l ≤ m → (x : List ℕ) (w : Wire) (dev : Dev) → IsLeft (Rose k l) x w dev → IsLeft (Rose k m) x w dev
-left-later k l m i j x w dev r = record {
-  count = r.count;
-  within = r.within;
-  state = r.state;
-  goes = goes-weaker (Rose k l) (Rose k m) (rose-from k l m i j) w r.state (take r.count x) r.goes;
-  device = r.device;
-}
-
-pub LeftBy-later : (k l m : ℕ) → k ≤ l → l ≤ m → (a b : Option Peer) (x : List ℕ) → LeftBy k l a b x → LeftBy k m a b x
-LeftBy-later k l m i j a b x r = off-off (IsLeft (Rose k l) x) (IsLeft (Rose k m) x) (left-later k l m i j x) a b r
 
 -- The handshake.
 pub MaySend-greeting : (test : CommandTest) (a : Option Peer) (bytes : List ℕ) → Begun a → bytes ≡ handshake 1 → MaySend test a bytes
@@ -403,6 +338,6 @@ sent-none k l (Some p) b x f e = absurd (off p (subst (λ q. OnLink (λ w v. Goe
     off (Apart dev) r = r
     off (Joined w) r = r
 
--- a port that told nothing before a send tells nothing behind it
+-- a port that told nothing before a send tells nothing after it
 pub untold-before : (k l : ℕ) (a b : Option Peer) (x : List ℕ) → Sent k l a b x → b ≡ None → a ≡ None
 untold-before k l a b x f e = sent-none k l a b x f e

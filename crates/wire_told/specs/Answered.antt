@@ -12,9 +12,9 @@ use Rattle.wire_model.specs.Says.{Loaded, says}
 use Rattle.wire_model.specs.Wire.{Wire, Phase, Shake, Command, Data, after}
 use Rattle.wire_model.specs.Halts.{Halts}
 use Rattle.wire_told.specs.Told.{done}
-use Rattle.wire_told.specs.Replied.{failed_in}
+use Rattle.wire_told.specs.Told.{failed_in}
 
--- INFO and TEXT, behind which more replies follow
+-- INFO and TEXT, after which more replies follow
 abbrev pub is_line : Reply → Bool
 is_line (Info text) = true
 is_line (Text text) = true
@@ -123,7 +123,7 @@ pub record IsLoadedNow (w : Wire) : Type 0 where
   pub commanding : w.phase ≡ Command
   pub okay : w.out ≡ reply_frames (Okay [] ∷ [])
 
--- Amid a download: so many bytes are due, or OKAY is.
+-- Amid a download: the bytes that are left are due, or OKAY is.
 pub record IsSending (left : ℕ) (w : Wire) : Type 0 where
   pub running : w.closed ≡ false
   pub rest : w.rest ≡ []
@@ -152,7 +152,7 @@ abbrev pub is_announced : Option ℕ → ℕ → Bool
 is_announced None n = false
 is_announced (Some count) n = n == count
 
--- The reply may end the command: FAIL ends each, DATA a download of so many bytes, and OKAY all others.
+-- The reply may end the command: FAIL ends each, DATA a download of its count, and OKAY all others.
 abbrev pub suits : CommandValue → Reply → Bool
 suits command (Okay text) = is_none (announces command)
 suits command (Fail text) = true

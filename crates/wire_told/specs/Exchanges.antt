@@ -63,7 +63,7 @@ Exchanged command old new (Some end) =
 Exchanged command old new None =
     OffLink (IsInterrupted (Rose old.faults new.faults) command) old.peer new.peer
 
--- The connection is open, and so many bytes may come until it has taken 2 ^ 61.
+-- The connection is open, and `spare` bytes may come until it has taken 2 ^ 61.
 pub record IsFreeFor (spare : ℕ) (w : Wire) : Type 0 where
   pub running : w.closed ≡ false
   pub bounded : w.taken + spare ≤ 2 ^ 61

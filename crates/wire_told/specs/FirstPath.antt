@@ -6,7 +6,6 @@ use Rattle.fb_message.specs.CommandText.{CommandValue, GetVar, Download, Flash, 
 use Rattle.fb_message.specs.declared.command.BootTarget.{BootTarget}
 use Rattle.fb_message.specs.declared.command.BootTarget.TheVariants.{System, Bootloader, Fastboot, Recovery}
 use Rattle.dev_model.specs.Images.{is_sparse}
-use Rattle.wire_told.specs.Peers.{Peer, OfLink}
 use Rattle.wire_model.specs.Says.{Loaded}
 use Rattle.wire_told.specs.Turns.{CommandTest}
 
@@ -43,7 +42,3 @@ is_first_path loaded _ = false
 -- a test passes at least these commands
 abbrev pub PassesFirst : CommandTest → Type 0
 PassesFirst test = (loaded : Loaded) (payload : List ℕ) → IsTrue (is_first_path loaded (command_of payload)) → IsTrue (test loaded payload)
-
--- the payload spells one of these commands
-abbrev pub IsFirst : Option Peer → List ℕ → Type 0
-IsFirst a payload = OfLink (λ w. IsTrue (is_first_path w.loaded (command_of payload))) a

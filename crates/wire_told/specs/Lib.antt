@@ -3,7 +3,6 @@ pub mod Turns
 pub mod FirstPath
 pub mod Told
 pub mod Places
-pub mod Replied
 pub mod Answered
 pub mod Ports
 pub mod Exchanges

@@ -1,5 +1,5 @@
 -- Targets, and what they are told to stand for.
-use Rattle.std.specs.Prelude.{◌≡◌, ◌≢◌, ℕ, List, [], ◌++◌, Option, Some, None, Bool}
+use Rattle.std.specs.Prelude.{◌≡◌, ◌≢◌, ℕ, List, [], ◌++◌, Option, Some, None}
 use Rattle.fb_frame.specs.Framing.{head, frame}
 use Rattle.dev_model.specs.declared.device.Dev.{Dev}
 use Rattle.dev_model.specs.declared.bad_image.BadImage.{BadImage}
@@ -63,12 +63,6 @@ IsLast stands last place = LastBy (stands place) last place
 -- no target but the last one stands for anything else than it did
 abbrev pub KeepsOthers : Option Place → Stands → Stands → Type 0
 KeepsOthers last stands now = (other : Place) → last ≢ Some other → now other ≡ stands other
-
--- what all calls but `aim` keep: whether the port is aimed, its last target, and what the others stand for
-pub record IsKept (aimed still : Bool) (last same : Option Place) (stands now : Stands) : Type 0 where
-  pub aimed_still : still ≡ aimed
-  pub last_same : same ≡ last
-  pub others : KeepsOthers last stands now
 
 -- these bytes were appended to a told list
 abbrev pub Appended : Option (List ℕ) → Option (List ℕ) → List ℕ → Type 0

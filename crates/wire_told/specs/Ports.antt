@@ -107,13 +107,13 @@ pub record HearsReply (old new : PortTold) (reply : List ℕ) : Type 0 where
   pub log : new.log ≡ old.log
   pub unended : new.ends ≡ old.ends
 
--- fewer bytes than so many were appended to a told list
+-- fewer bytes than this were appended to a told list
 pub record AppendedPart (most : ℕ) (a b : Option (List ℕ)) : Type 0 where
   pub part : List ℕ
   pub short : length part < most
   pub bytes : Appended a b part
 
--- Fewer bytes than so many were heard, nothing was sent, and the device is as it was.
+-- Fewer bytes than this were heard, nothing was sent, and the device is as it was.
 pub record Misses (old new : PortTold) (most : ℕ) : Type 0 where
   pub stays : Stays old.peer new.peer
   pub kept : Kept old new

@@ -1,18 +1,16 @@
 -- Told connections: what each call on a port does to the connection at its other end.
-use Rattle.std.specs.Prelude.{◌≡◌, ◌≢◌, ◌⊎◌, ℕ, ◌+◌, ◌-◌, ◌*◌, ◌^◌, ◌<◌, ◌≤◌, List, [], ◌++◌, length, take, flat_map, map, Option, Some, None, All, IsTrue, IsFalse, false, codes, ◌∷◌}
+use Rattle.std.specs.Prelude.{◌≡◌, ◌≢◌, ◌⊎◌, ℕ, ◌+◌, ◌-◌, ◌*◌, ◌^◌, ◌<◌, ◌≤◌, List, [], ◌++◌, length, take, Option, Some, None, IsTrue, IsFalse, false, codes, ◌∷◌}
 use Rattle.fb_frame.specs.Framing.{head, frame}
 use Rattle.fb_frame.specs.Greeting.{handshake}
 use Rattle.fb_message.specs.CommandText.{command_of}
 use Rattle.fb_message.specs.declared.reply.Reply.{Reply}
-use Rattle.fb_message.specs.ReplyText.{reply_bytes}
 use Rattle.dev_model.specs.declared.device.Dev.{Dev}
 use Rattle.dev_model.specs.Partitions.{is_fastboot}
 use Rattle.fb_frame.specs.Causes.{Rose}
 use Rattle.wire_told.specs.Peers.{Peer, Apart, Joined, device_of, OfLink, OnLink, OffLink}
-use Rattle.wire_model.specs.Says.{says}
 use Rattle.wire_model.specs.Wire.{Wire, Shake, Command, Data, fresh, paid, after}
-use Rattle.wire_model.specs.Halts.{Faults}
-use Rattle.wire_model.specs.Replies.{IsShort, IsNoLoad}
+use Rattle.wire_model.specs.Halts.{Faults, Halts}
+use Rattle.wire_model.specs.Replies.{IsNoLoad}
 use Rattle.wire_told.specs.Turns.{room, CommandTest, IsTurn}
 
 -- What may follow from these bytes, where a disk call can fail only if `broke` holds.
@@ -135,7 +133,7 @@ MaySend test a bytes = OfLink (IsFront test bytes) a
 abbrev pub Passes : CommandTest → Option Peer → List ℕ → Type 0
 Passes test a payload = OfLink (λ w. IsTrue (test w.loaded payload)) a
 
--- A command is awaited, all that was answered was heard, and so many bytes may still come.
+-- A command is awaited, all that was answered was heard, and `spare` bytes may still come.
 pub record IsIdle (spare : ℕ) (w : Wire) : Type 0 where
   pub running : w.closed ≡ false
   pub quiet : w.out ≡ []
@@ -146,10 +144,6 @@ pub record IsIdle (spare : ℕ) (w : Wire) : Type 0 where
 abbrev pub Idle : ℕ → Option Peer → Type 0
 Idle spare a = OfLink (IsIdle spare) a
 
--- exactly this payload is awaited, its head being taken
-abbrev pub Awaits : Option Peer → List ℕ → Type 0
-Awaits a payload = OfLink (OneFrame payload payload) a
-
 -- a connection has just begun
 abbrev pub Begun : Option Peer → Type 0
 Begun a = OfLink (λ w. w ≡ fresh w.device) a
@@ -158,7 +152,7 @@ Begun a = OfLink (λ w. w ≡ fresh w.device) a
 abbrev pub Greeted : Option Peer → Option Peer → Type 0
 Greeted a b = OnLink (λ w v. v ≡ record w { phase = Command; rest = []; taken = w.taken + 4; out = [] }) a b
 
--- a connection with the same device began, and commands are awaited, of which so many bytes may come
+-- a connection with the same device began, and commands are awaited, of which `spare` bytes may come
 abbrev pub Opened : ℕ → Option Peer → Option Peer → Type 0
 Opened spare None None = Unit {0}
 Opened spare None (Some b) = ⊥
@@ -166,52 +160,9 @@ Opened spare (Some a) None = ⊥
 Opened spare (Some a) (Some (Apart dev)) = ⊥
 Opened spare (Some a) (Some (Joined w)) = (w.device ≡ device_of a) × IsIdle spare w
 
--- these replies are left to hear, and nothing else
-pub record IsReplying (replies : List (List ℕ)) (w : Wire) : Type 0 where
-  pub left : w.out ≡ flat_map frame replies
-  pub short : All IsShort replies
-
-abbrev pub Replies : Option Peer → List (List ℕ) → Type 0
-Replies a replies = OfLink (IsReplying replies) a
-
--- a whole reply is next
-pub record IsAnswering (w : Wire) : Type 0 where
-  pub reply : List ℕ
-  pub more : List ℕ
-  pub left : w.out ≡ frame reply ++ more
-  pub short : IsShort reply
-
-abbrev pub Answers : Option Peer → Type 0
-Answers a = OfLink IsAnswering a
-
 -- at least n bytes are left to hear
 abbrev pub Gives : Option Peer → ℕ → Type 0
 Gives a n = OfLink (λ w. n ≤ length w.out) a
-
--- the bytes of a reply are next, n of them, at most 256
-abbrev pub Owes : Option Peer → ℕ → Type 0
-Owes a n = OfLink (λ w. (n ≤ 256) × (n ≤ length w.out)) a
-
--- what a device answers to the payload of a command, each reply as its bytes
-abbrev pub replies_to : List ℕ → Wire → List (List ℕ)
-replies_to payload w = map reply_bytes (says w.device w.loaded (command_of payload)).replies
-
--- each of them is short
-abbrev pub AreShort : List ℕ → Option Peer → Type 0
-AreShort payload a = OfLink (λ w. All IsShort (replies_to payload w)) a
-
--- a frame of the payload was sent and this reply was heard
-pub record IsAsked (broke : Type 0) (payload answer : List ℕ) (w u : Wire) : Type 0 where
-  pub state : Wire
-  pub goes : GoesBy broke w (frame payload) state
-  pub heard : state ≡ record u { out = frame answer ++ u.out }
-
-abbrev pub Asked : ℕ → ℕ → Option Peer → Option Peer → List ℕ → List ℕ → Type 0
-Asked before now a b payload answer = OnLink (IsAsked (Rose before now) payload answer) a b
-
--- the reply says that all went well
-abbrev pub IsOkay : List ℕ → Type 0
-IsOkay answer = take 4 answer ≡ codes "OKAY"
 
 -- the one reply of a command in which a disk call failed
 abbrev pub disk_fault : List ℕ
@@ -222,26 +173,12 @@ abbrev pub StartsPlain : List Reply → Type 0
 StartsPlain [] = Unit {0}
 StartsPlain (reply ∷ replies) = IsNoLoad reply
 
--- the device gives this as its only reply to the command, and the connection stays open
-pub record IsPlain (payload : List ℕ) (reply : Reply) (w : Wire) : Type 0 where
-  pub only : (says w.device w.loaded (command_of payload)).replies ≡ reply ∷ []
-  pub open_still : (says w.device w.loaded (command_of payload)).closed ≡ false
-  pub short : IsShort (reply_bytes reply)
-
 -- the state that a command's payload leads to from one that was idle
 abbrev pub done : List ℕ → Wire → Wire
 done payload w = record (paid Command payload w) { rest = []; taken = w.taken + length (frame payload) }
 
--- the device did what it says to the command, and this was the first of its replies
-abbrev pub Did : Option Peer → Option Peer → List ℕ → List ℕ → Type 0
-Did a b payload answer = OnLink (λ w u. record u { out = frame answer ++ u.out } ≡ done payload w) a b
-
--- the device is what the command leaves
-abbrev pub DidSo : Option Peer → Option Peer → List ℕ → Type 0
-DidSo a b payload = OnLink (λ w u. u.device ≡ (says w.device w.loaded (command_of payload)).device) a b
-
--- The data of a download is awaited, of which so many bytes are announced and these came; and so many
--- bytes may still come behind it.
+-- The data of a download is awaited, of which `count` bytes are announced and these came; and `spare` bytes
+-- may still come after it.
 pub record IsReceiving (spare count : ℕ) (got : List ℕ) (w : Wire) : Type 0 where
   pub running : w.closed ≡ false
   pub quiet : w.out ≡ []
@@ -249,16 +186,10 @@ pub record IsReceiving (spare count : ℕ) (got : List ℕ) (w : Wire) : Type 0 
   pub rest : w.rest ≡ []
   pub bounded : w.taken + 9 * (count - length got) + spare < 2 ^ 62
 
-abbrev pub Receiving : ℕ → ℕ → List ℕ → Option Peer → Type 0
-Receiving spare count got a = OfLink (IsReceiving spare count got) a
-
 -- more of the data was taken, and the device is as it was
 pub record IsFilled (spare count : ℕ) (got : List ℕ) (w v : Wire) : Type 0 where
   pub device : v.device ≡ w.device
   pub receiving : IsReceiving spare count got v
-
-abbrev pub Filled : ℕ → ℕ → List ℕ → Option Peer → Option Peer → Type 0
-Filled spare count got a b = OnLink (IsFilled spare count got) a b
 
 -- all of the data was taken: it is loaded, the device is as it was, and OKAY is left to hear
 pub record IsLoaded (spare : ℕ) (got : List ℕ) (w v : Wire) : Type 0 where
@@ -270,11 +201,12 @@ pub record IsLoaded (spare : ℕ) (got : List ℕ) (w v : Wire) : Type 0 where
   pub running : v.closed ≡ false
   pub bounded : v.taken + spare < 2 ^ 62
 
-abbrev pub LoadedBy : ℕ → List ℕ → Option Peer → Option Peer → Type 0
-LoadedBy spare got a b = OnLink (IsLoaded spare got) a b
+-- the closed connection to this device, in which the command was the last
+abbrev pub failed_in : List ℕ → Dev → Wire → Wire
+failed_in payload dev w = record w { device = dev; rest = []; taken = w.taken + length (frame payload); closed = true }
 
--- what a device says to a command is left to hear, or the one reply of a failed disk call, which comes only
--- where the count rose
-abbrev pub Replying : ℕ → ℕ → Option Peer → Option Peer → List ℕ → Type 0
-Replying before now a b payload =
-    OnLink (λ w v. IsReplying (replies_to payload w) v ⊎ (Rose before now × IsReplying (disk_fault ∷ []) v)) a b
+-- A disk call failed while the command was run: the device halted, and this was heard.
+pub record IsFailed (payload answer : List ℕ) (w u : Wire) : Type 0 where
+  pub told : answer ≡ disk_fault
+  pub halts : Halts w.device w.loaded (command_of payload) u.device
+  pub state : u ≡ failed_in payload u.device w
