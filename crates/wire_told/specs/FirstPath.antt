@@ -17,7 +17,8 @@ is_some_name (Some name) = is_name name
 -- the variables that the host asks for
 abbrev pub is_first_question : List ℕ → Bool
 is_first_question variable =
-    bytes_eq variable (codes "slot-count") || bytes_eq variable (codes "max-download-size") || is_some_name (behind_word (codes "is-logical:") variable)
+    bytes_eq variable (codes "slot-count") || bytes_eq variable (codes "max-download-size")
+    || is_some_name (behind_word (codes "is-logical:") variable)
 
 -- no sparse file was downloaded
 abbrev pub is_raw : Loaded → Bool
@@ -41,4 +42,6 @@ is_first_path loaded _ = false
 
 -- a test passes at least these commands
 abbrev pub PassesFirst : CommandTest → Type 0
-PassesFirst test = (loaded : Loaded) (payload : List ℕ) → IsTrue (is_first_path loaded (command_of payload)) → IsTrue (test loaded payload)
+PassesFirst test =
+    (loaded : Loaded) (payload : List ℕ) → IsTrue (is_first_path loaded (command_of payload)) →
+    IsTrue (test loaded payload)

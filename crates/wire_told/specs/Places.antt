@@ -36,8 +36,8 @@ abbrev pub IsBad : Stands → Place → BadImage → Type 0
 IsBad stands (ImageAt path) bad = IsBadBy (stands (ImageAt path)) bad
 IsBad stands (TcpAt host port) bad = ⊥
 
--- The device that the port tells is one that there can be, in a mode in which a connection begins, and the one
--- that is told to stand here. A port may tell its device also where it isn't told what stands here.
+-- The device that the port tells is one that there can be, in a mode in which a connection begins, and the
+-- one that is told to stand here. A port may tell its device also where it isn't told what stands here.
 abbrev pub AimsBy : Option Stand → Option Peer → Type 0
 AimsBy None None = Unit {0}
 AimsBy None (Some (Joined w)) = ⊥

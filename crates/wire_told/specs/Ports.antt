@@ -30,8 +30,8 @@ OpensAt (Some a) (Some (Joined w)) = w ≡ greeted_wire (device_of a)
 --   heard: the bytes received in the last connection, where the port tells them
 --   log: the bytes sent over all connections, joined, where the port tells them
 --   faults, ends: how many calls failed, and how often the end of a connection was met
---   honest: what failed writes of the disk at the other end left so far reads as before, as written, or not at
---     all; of a port without a disk it always holds
+--   honest: what failed writes of the disk at the other end left so far reads as before, as written, or not
+--     at all; of a port without a disk it always holds
 pub record PortTold : Type 1 where
   pub peer : Option Peer
   pub up : Bool

@@ -1,5 +1,5 @@
 -- Told connections: what each call on a port does to the connection at its other end.
-use Rattle.std.specs.Prelude.{◌≡◌, ◌≢◌, ◌⊎◌, ℕ, ◌+◌, ◌-◌, ◌*◌, ◌^◌, ◌<◌, ◌≤◌, List, [], ◌++◌, length, take, Option, Some, None, IsTrue, IsFalse, false, codes, ◌∷◌}
+use Rattle.std.specs.Prelude.{◌≡◌, ◌≢◌, ◌⊎◌, ℕ, ◌+◌, ◌-◌, ◌*◌, ◌^◌, ◌<◌, ◌≤◌, List, [], ◌++◌, length, take, Option, Some, None, IsTrue, IsFalse, true, false, codes, ◌∷◌}
 use Rattle.fb_frame.specs.Framing.{head, frame}
 use Rattle.fb_frame.specs.Greeting.{handshake}
 use Rattle.fb_message.specs.CommandText.{command_of}
@@ -17,7 +17,8 @@ use Rattle.wire_told.specs.Turns.{room, CommandTest, IsTurn}
 unfoldable pub GoesBy : Type 0 → Wire → List ℕ → Wire → Type 0
 GoesBy broke w bytes v = (v ≡ after w bytes) ⊎ (broke × Faults w bytes v)
 
--- the connection goes on by these bytes, and a disk call failed only where the count rose between these numbers
+-- the connection goes on by these bytes, and a disk call failed only where the count rose between these
+-- numbers
 abbrev pub Sent : ℕ → ℕ → Option Peer → Option Peer → List ℕ → Type 0
 Sent before now a b bytes = OnLink (λ w v. GoesBy (Rose before now) w bytes v) a b
 
@@ -203,7 +204,8 @@ pub record IsLoaded (spare : ℕ) (got : List ℕ) (w v : Wire) : Type 0 where
 
 -- the closed connection to this device, in which the command was the last
 abbrev pub failed_in : List ℕ → Dev → Wire → Wire
-failed_in payload dev w = record w { device = dev; rest = []; taken = w.taken + length (frame payload); closed = true }
+failed_in payload dev w =
+    record w { device = dev; rest = []; taken = w.taken + length (frame payload); closed = true }
 
 -- A disk call failed while the command was run: the device halted, and this was heard.
 pub record IsFailed (payload answer : List ℕ) (w u : Wire) : Type 0 where
