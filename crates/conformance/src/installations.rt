@@ -1,6 +1,6 @@
-use fb_frame::digest::digest;
 use dev_disk::memory::MemoryDisk;
 use dev_model::device::Mode;
+use fb_frame::digest::digest;
 use fb_frame::memory_sink::MemorySink;
 use fb_top::host::host_main;
 use fb_top::plain_port::PlainPort;

@@ -1,9 +1,9 @@
 -- What a question and a download leave, as a host above the typed states knows it.
-use Rattle.std.proofs.Common.{◌≡◌, ◌⊎◌, inl, inr, ℕ, ◌+◌, ◌-◌, ◌^◌, ◌<◌, ◌≤◌, true, false, List, ◌++◌, length, Option, Some, None, refl, sym, ap, ◌∙◌, subst, arith, length-append}
+use Rattle.std.proofs.Common.{◌≡◌, inl, inr, ℕ, ◌+◌, ◌-◌, ◌^◌, ◌≤◌, List, ◌++◌, length, Option, Some, None, refl, sym, ap, ◌∙◌, subst, arith, length-append}
 use Rattle.std.specs.Prelude.{codes, nat_le, nat_lt, IsTrue}
 use Rattle.std.proofs.lemmas.Bool.Decides.{nat_tests}
 use Rattle.fb_frame.specs.Causes.{Rose}
-use Rattle.fb_message.specs.CommandText.{CommandValue, GetVar, Download, spelling, command_of}
+use Rattle.fb_message.specs.CommandText.{CommandValue, GetVar, Download, command_of}
 use Rattle.fb_message.specs.declared.reply.Reply.{Reply}
 use Rattle.fb_message.specs.declared.reply.Reply.TheVariants.{Okay, Fail, Load}
 use Rattle.fb_frame.specs.Numbers.{hex8}
@@ -15,9 +15,9 @@ use Rattle.wire_model.specs.Halts.{Halts}
 use Rattle.wire_model.specs.Says.{Loaded, says, awaits}
 use Rattle.wire_model.specs.Wire.{Wire}
 use Rattle.wire_told.specs.Answered.{Stays, IsFree, Free, IsWritten, Wrote}
-use Rattle.wire_told.specs.Exchanges.{said_to, IsExchanged, IsInterrupted, Exchanged, FreeFor}
+use Rattle.wire_told.specs.Exchanges.{said_to, IsExchanged, Exchanged, FreeFor}
 use Rattle.wire_told.specs.FirstPath.{is_first_question, is_first_path, PassesFirst}
-use Rattle.wire_told.specs.Peers.{Peer, Apart, Joined, OfLink, OnLink, OffLink}
+use Rattle.wire_told.specs.Peers.{Peer, Apart, Joined, OnLink}
 use Rattle.wire_told.specs.Ports.{PortTold, OpensAt}
 use Rattle.wire_told.specs.Turns.{CommandTest}
 use Rattle.wire_told.specs.Told.{Heard, Passes}

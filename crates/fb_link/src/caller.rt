@@ -32,7 +32,11 @@ fn ask<P: Port + Drop, S: Sink>(ready: Ready<P>, name: &[u8], shown: &mut S) -> 
 
 /// Downloads the bytes in one frame.
 #[tactic(auto, using(crate::proofs::CallerLemmas::downloads))]
-fn download<P: Port + Drop, S: Sink>(ready: Ready<P>, bytes: &[u8], shown: &mut S) -> Option<Ready<P>>
+fn download<P: Port + Drop, S: Sink>(
+    ready: Ready<P>,
+    bytes: &[u8],
+    shown: &mut S,
+) -> Option<Ready<P>>
     requires free { Free (P.told ready).peer }
     requires some { 0 < length bytes.now }
     requires small { length bytes.now ≤ 65536 }
@@ -58,7 +62,11 @@ fn download<P: Port + Drop, S: Sink>(ready: Ready<P>, bytes: &[u8], shown: &mut 
 
 /// Begins a connection, asks twice and downloads the bytes.
 #[tactic(auto, using(crate::proofs::CallerLemmas::calls))]
-pub(crate) fn load<P: Port + Drop, S: Sink>(port: P, bytes: &[u8], shown: &mut S) -> Option<Ready<P>>
+pub(crate) fn load<P: Port + Drop, S: Sink>(
+    port: P,
+    bytes: &[u8],
+    shown: &mut S,
+) -> Option<Ready<P>>
     requires aimed { IsTrue (P.told port).aimed }
     requires sound { Sound (P.told port).peer }
     requires some { 0 < length bytes.now }

@@ -1,242 +1,319 @@
--- A command and its reply, as values: what the device said, and what it is now.
-use Rattle.std.proofs.Common.{◌≡◌, ◌≢◌, ◌⊎◌, cond, not, ◌*◌, inl, inr, ℕ, ◌+◌, ◌<◌, ◌≤◌, Bool, true, false, List, [], ◌∷◌, length, map, Option, Some, None, refl, sym, ap, ◌∙◌, subst, arith}
-use Rattle.std.specs.Prelude.{IsTrue, codes, bytes_eq}
-use Rattle.std.specs.List.{list_all}
+-- A question to a device over a connection, and what comes of it.
+use Rattle.std.proofs.Common.{◌≡◌, ◌≢◌, inl, inr, not, ◌||◌, cond, ℕ, ◌+◌, ◌^◌, ◌<◌, ◌≤◌, Bool, true, false, List, [], ◌∷◌, ◌++◌, length, take, Option, Some, None, refl, sym, ap, ◌∙◌, subst, arith, length-append, length-take}
+use Rattle.std.specs.Prelude.{IsTrue, IsFalse, IsSome, IfErr, Result, Ok, Err, codes, bytes_eq, nat_le}
+use Rattle.std.specs.Int.{w64, to_be_bytes}
+use Rattle.std.proofs.lemmas.Bool.Decides.{nat_tests}
+use Rattle.std.proofs.lemmas.Slice.Eq.{bytes_eq-Decides}
 use Rattle.std.proofs.lemmas.Option.{none-some}
 use Rattle.fb_frame.specs.Causes.{Rose}
+use Rattle.fb_frame.specs.Framing.{frame}
 use Rattle.fb_message.specs.declared.reply.Reply.{Reply}
 use Rattle.fb_message.specs.declared.reply.Reply.TheVariants.{Okay, Fail, Info, Text, Load}
-use Rattle.fb_message.specs.CommandText.{CommandValue, GetVar, Download, Flash, command_of, spelling, is_written}
-use Rattle.fb_message.specs.CommandText as text
-use Rattle.fb_message.specs.ReplyText.{reply_bytes, reply_fits, reply_of, reply_spelling}
+use Rattle.fb_message.specs.CommandText.{CommandValue, GetVar, command_of, spelling}
+use Rattle.fb_message.specs.Prefixes.{only_if}
+use Rattle.fb_message.specs.ReplyText.{line_of}
+use Rattle.fb_message.proofs.Words.{only-inverse}
 use Rattle.fb_message.proofs.Commands.{command_again}
-use Rattle.fb_message.proofs.Replies.{reply_again}
-use Rattle.fb_message.proofs.Read.{reply_read}
-use Rattle.fb_message.proofs.Words.{only-yes, only-inverse, parts}
-use Rattle.dev_model.specs.Validity.{IsValid}
-use Rattle.wire_told.specs.Peers.{Peer, Apart, Joined, OnLink}
-use Rattle.wire_model.specs.Says.{Loaded, Said, says, tells, tells_all}
 use Rattle.dev_model.specs.declared.device.Dev.{Dev}
+use Rattle.dev_model.specs.Partitions.{is_fastboot}
+use Rattle.dev_model.specs.Validity.{IsValid}
 use Rattle.dev_model.specs.Variables.{value}
-use Rattle.wire_told.proofs.RepliedLemmas.{Idle-steady, Receiving-told, Done-but}
-use Rattle.wire_model.specs.Wire.{Wire}
+use Rattle.wire_told.specs.Answered.{Free, IsFree, reply_frames, IsSaid, IsAnswered}
+use Rattle.wire_told.specs.Exchanges.{IsExchanged, IsInterrupted, Exchanged}
 use Rattle.wire_model.specs.Halts.{Halts}
+use Rattle.wire_told.specs.FirstPath.{is_first_question, is_first_path, PassesFirst}
+use Rattle.wire_told.specs.Peers.{Peer, Apart, Joined, OfLink, OnLink, OffLink}
+use Rattle.wire_told.specs.Ports.{PortTold, Kept, Drops}
+use Rattle.wire_model.specs.Says.{Loaded, Said, says, tells, tells_all}
+use Rattle.wire_model.specs.Replies.{IsNoLoad}
+use Rattle.wire_told.specs.Told.{Passes, HungUp}
 use Rattle.wire_told.specs.Turns.{CommandTest}
-use Rattle.wire_told.specs.Told.{Passes, Idle, disk_fault}
-use Rattle.wire_told.specs.Replied.{IsFirstOf, IsDone, IsFailed, IsReplied, Replied, Done, IsData, is_steady}
-use Rattle.wire_told.specs.FirstPath.{is_first_path, PassesFirst}
-use Rattle.wire_told.proofs.Lifted.{of-of, of-on, on-on, with-on}
-use Rattle.wire_told.proofs.AnswerLemmas.{DidSo-did}
-use Rattle.wire_told.proofs.FirstLemmas.{Passes-first}
-use Rattle.wire_told.proofs.GreetLemmas.{Idle-less}
-use Rattle.wire_model.proofs.ValidReplies.{says_replies}
-use Rattle.wire_told.proofs.OwedLemmas.{AreShort-valid}
-use Rattle.fb_top.specs.Asking.{first_reply, IsAnswered, IsFaulted, Answered, ValidPeer, IsTaken, data_of, Behind, IsTold, Tells}
+use Rattle.wire_model.specs.Wire.{Wire, Command, with_replies, awaited, answered}
+use Rattle.wire_told.proofs.Lifted.{of-of, with-on}
+use Rattle.wire_told.proofs.OneFrames.{length-frame}
+use Rattle.wire_told.proofs.PortLemmas.{Kept-trans}
+use Rattle.fb_link.specs.Concluded.{Concluded, CommandPasses, IsCutOff, IsUndue}
+use Rattle.fb_link.specs.Errors as link
+use Rattle.fb_link.specs.Seen.{Seen}
+use Rattle.fb_link.specs.declared.link_error.LinkError.{LinkError}
+use Rattle.fb_link.specs.declared.link_error.LinkError.TheVariants as error
+use Rattle.fb_top.specs.declared.asking.AskFail.{AskFail}
+use Rattle.fb_top.specs.declared.asking.AskFail.TheVariants.{Link, Refused, Unknown}
+use Rattle.fb_top.specs.Asking.{IsFit, Fit, IsOpenStill, ToldAlike, Moves, IsTold, Tells, IsCut, Why, IsStopped, fail_of}
 
--- what was written of a command is that command
-pub command-of-written : (command : CommandValue) (payload : List ℕ) → spelling command ≡ Some payload → command_of payload ≡ command
-command-of-written command payload e = command_again command payload e
+-- a connection that is fit takes a command
+pub Free-fit : (n : ℕ) (a : Option Peer) → Fit n a → Free a
+Free-fit n a f = of-of (IsFit n) IsFree (λ w p. record { running = p.free.running; bounded = omega (arith, p.free.bounded) }) a f
 
--- it isn't empty
-pub written-some : (command : CommandValue) (payload : List ℕ) → IsTrue (is_written command) → spelling command ≡ Some payload → 0 < length payload
-unfolding command_of
-written-some command [] w e = let k : true ≡ false = sym w ∙ ap is_written (sym (command_again command [] e)) in absurd cc
-written-some command (b ∷ payload) w e = omega arith
+pub Fit-less : (m n : ℕ) (a : Option Peer) → n ≤ m → Fit m a → Fit n a
+Fit-less m n a h f =
+    of-of (IsFit m) (IsFit n) (λ w p. record { between = p.between; serves = p.serves; free = record { running = p.free.running; bounded = omega (arith, h, p.free.bounded) } }) a f
 
--- and every port takes it that takes the first path's commands
-pub Passes-taken : (test : CommandTest) (a : Option Peer) (command : CommandValue) (payload : List ℕ) → PassesFirst test → IsTaken a command → spelling command ≡ Some payload → Passes test a payload
-Passes-taken test a command payload first taken e =
-    Passes-first test a payload first
-    (of-of (λ w. IsTrue (is_first_path w.loaded command)) (λ w. IsTrue (is_first_path w.loaded (command_of payload)))
-    (λ w h. subst (λ c. IsTrue (is_first_path w.loaded c)) (sym (command_again command payload e)) h) a taken)
+-- every port takes a command of the first path
+passes-here : (test : CommandTest) (c : CommandValue) (n : ℕ) (p : List ℕ) (a : Option Peer) → PassesFirst test → ((w : Wire) → IsTrue (is_first_path w.loaded c)) → command_of p ≡ c → Fit n a → Passes test a p
+passes-here test c n p a first always e f =
+    of-of (IsFit n) (λ w. IsTrue (test w.loaded p)) (λ w o. first w.loaded p (subst (λ x. IsTrue (is_first_path w.loaded x)) (sym e) (always w))) a f
 
--- a reply that is read and one that fits and has these bytes are one
-same-reply : (reply r : Reply) (answer : List ℕ) → IsTrue (reply_fits r) → answer ≡ reply_bytes r → Some reply ≡ reply_of answer → r ≡ reply
-same-reply reply r answer fits e read =
-    let spelled : reply_spelling r ≡ Some answer = only-yes (reply_fits r) (reply_bytes r) fits ∙ ap Some (sym e) in
-    let k : Some r ≡ Some reply = sym (reply_again r answer spelled) ∙ sym read in
-    cc
+pub Passes-taken : (test : CommandTest) (c : CommandValue) (a : Option Peer) → PassesFirst test → OfLink (λ w. IsTrue (is_first_path w.loaded c)) a → CommandPasses test a c
+Passes-taken test c a first taken = λ p e.
+    of-of (λ w. IsTrue (is_first_path w.loaded c)) (λ w. IsTrue (test w.loaded p)) (λ w t. first w.loaded p (subst (λ x. IsTrue (is_first_path w.loaded x)) (sym (command_again c p e)) t)) a taken
 
-first-said : (reply : Reply) (replies : List Reply) (answer : List ℕ) → IsTrue (list_all reply_fits replies) → IsFirstOf answer (map reply_bytes replies) → Some reply ≡ reply_of answer → first_reply replies ≡ Some reply
-first-said reply [] answer fits f read = absurd f
-first-said reply (r ∷ replies) answer fits f read =
-    ap Some (same-reply reply r answer (parts (reply_fits r) (list_all reply_fits replies) fits).0 f read)
+pub Passes-always : (test : CommandTest) (c : CommandValue) (n : ℕ) (a : Option Peer) → PassesFirst test → ((w : Wire) → IsTrue (is_first_path w.loaded c)) → Fit n a → CommandPasses test a c
+Passes-always test c n a first always f = λ p e. passes-here test c n p a first always (command_again c p e) f
 
-answered : (command : CommandValue) (p answer : List ℕ) (reply : Reply) → command_of p ≡ command → Some reply ≡ reply_of answer → (w u : Wire) → IsValid w.device → IsDone p answer w u → IsAnswered command reply w u
-answered command p answer reply c read w u valid d =
-    let fits = (says_replies w.device w.loaded p valid).0 in
-    let first : first_reply (says w.device w.loaded (command_of p)).replies ≡ Some reply = first-said reply _ answer fits d.first read in
-    let device : u.device ≡ (says w.device w.loaded (command_of p)).device = DidSo-did (Some (Joined w)) (Some (Joined u)) p answer d.state in
-    subst (λ x. IsAnswered x reply w u) c (record { first = first; device = device })
+-- a port tells a device in both or in neither
+pub alike-on : (R : Wire → Wire → Type 0) (a b : Option Peer) → OnLink R a b → ToldAlike a b
+alike-on R None None r = tt
+alike-on R None (Some b) r = r
+alike-on R (Some (Apart dev)) b r = absurd r
+alike-on R (Some (Joined w)) None r = r
+alike-on R (Some (Joined w)) (Some (Apart dev)) r = absurd r
+alike-on R (Some (Joined w)) (Some (Joined v)) r = tt
 
-faulted : (command : CommandValue) (p answer : List ℕ) (reply : Reply) → command_of p ≡ command → Some reply ≡ reply_of answer → (w u : Wire) → IsFailed p answer w u → IsFaulted command reply w u
-faulted command p answer reply c read w u f =
+pub alike-off : (R : Wire → Dev → Type 0) (a b : Option Peer) → OffLink R a b → ToldAlike a b
+alike-off R None None r = tt
+alike-off R None (Some b) r = r
+alike-off R (Some (Apart dev)) b r = absurd r
+alike-off R (Some (Joined w)) None r = r
+alike-off R (Some (Joined w)) (Some (Apart dev)) r = tt
+alike-off R (Some (Joined w)) (Some (Joined v)) r = absurd r
+
+pub Alike-exchanged : (c : CommandValue) (a b : PortTold) (x : Option Reply) → Exchanged c a b x → ToldAlike a.peer b.peer
+Alike-exchanged c a b (Some end) e = alike-on (IsExchanged (Rose a.faults b.faults) c end) a.peer b.peer e
+Alike-exchanged c a b None e = alike-off (IsInterrupted (Rose a.faults b.faults) c) a.peer b.peer e
+
+pub Moves-exchanged : (c : CommandValue) (a b : PortTold) (x : Option Reply) → Kept a b → Exchanged c a b x → Moves a b
+Moves-exchanged c a b x k e = record { kept = k; alike = Alike-exchanged c a b x e }
+
+-- why a command isn't carried out whose connection broke
+pub why-broken : (Undue Refuses : List ℕ → Type 0) (e : LinkError) (a b : PortTold) → link.Why Undue e a b → Why Refuses a b (fail_of e)
+why-broken Undue Refuses error.Link a b w = inl w
+why-broken Undue Refuses error.Ended a b w = inr w
+why-broken Undue Refuses (error.BadHandshake four) a b w = absurd w
+why-broken Undue Refuses (error.BadLength n) a b w = w.0
+why-broken Undue Refuses (error.BadReply reply) a b w = w.0
+why-broken Undue Refuses error.TooManyInfos a b w = w
+
+pub Stopped-broken : (Refuses : List ℕ → Type 0) (c : CommandValue) (e : LinkError) (f : AskFail) (a b : PortTold) → f ≡ fail_of e → link.Why (IsUndue c) e a b → Kept a b → IsCutOff c a b → Exchanged c a b None → IsStopped Refuses a b f
+Stopped-broken Refuses c e f a b same w k cut x = record {
+  moves = Moves-exchanged c a b None k x;
+  down = cut.down;
+  why = subst (λ y. Why Refuses a b y) (sym same) (why-broken (IsUndue c) Refuses e a b w);
+}
+
+-- one reply to a command
+pub only-reply : (lines : List Reply) (end one : Reply) → lines ++ end ∷ [] ≡ one ∷ [] → end ≡ one
+only-reply [] end one e = cc
+only-reply (i ∷ lines) end one e = let n = ap length e in let m = length-append lines (end ∷ []) in absurd (omega (arith, n, m))
+
+pub nothing-left : (x y : List ℕ) → x ++ y ≡ x → y ≡ []
+nothing-left x [] e = refl
+nothing-left x (b ∷ y) e = absurd (omega (arith, ap length e, length-append x (b ∷ y)))
+
+awaited-one : (r : Reply) (w : Wire) → IsNoLoad r → awaited (r ∷ []) w ≡ w
+awaited-one (Okay text) w n = refl
+awaited-one (Fail text) w n = refl
+awaited-one (Info text) w n = refl
+awaited-one (Text text) w n = refl
+awaited-one (Load count) w n = absurd n
+
+-- What a command with one reply leaves, where all was heard that was answered.
+pub record IsOneReply (said : Said) (end r : Reply) (p : List ℕ) (w u : Wire) : Type 0 where
+  pub reply : end ≡ r
+  pub device : u.device ≡ said.device
+  pub loaded : u.loaded ≡ said.loaded
+  pub closed : u.closed ≡ said.closed
+  pub quiet : u.out ≡ []
+  pub phase : u.phase ≡ w.phase
+  pub rest : u.rest ≡ []
+  pub taken : u.taken ≡ w.taken + length (frame p)
+
+with-said : Said → List ℕ → Wire → Wire
+with-said said p w = record (record (with_replies said.replies w) { device = said.device; loaded = said.loaded; closed = said.closed }) { rest = []; taken = w.taken + length (frame p) }
+
+done-one : (said : Said) (r : Reply) (p : List ℕ) (w : Wire) → IsNoLoad r → said.replies ≡ r ∷ [] → record (answered said w) { rest = []; taken = w.taken + length (frame p) } ≡ with-said said p w
+unfolding with-said
+done-one said r p w n e =
+    let v : Wire = record (with_replies said.replies w) { device = said.device; loaded = said.loaded; closed = said.closed } in
+    ap (λ (x : Wire). record x { rest = []; taken = w.taken + length (frame p) }) (ap (λ rs. awaited rs v) e ∙ awaited-one r v n)
+
+one-reply : (said : Said) (end r : Reply) (p : List ℕ) (w u : Wire) → IsNoLoad r → said.replies ≡ r ∷ [] → end ≡ r → w.out ≡ [] → record u { out = reply_frames (r ∷ []) ++ u.out } ≡ with-said said p w → IsOneReply said end r p w u
+unfolding with-said
+one-reply said end r p w u n e same quiet state =
+    let o : reply_frames (r ∷ []) ++ u.out ≡ reply_frames (r ∷ []) = ap (λ (x : Wire). x.out) state ∙ (ap (λ t. t ++ reply_frames said.replies) quiet ∙ ap reply_frames e) in
     record {
-      told = sym (same-reply reply (Fail (codes "disk fault")) answer refl f.told read);
-      halts = subst (λ x. Halts w.device w.loaded x u.device) c f.halts;
+      reply = same;
+      device = ap (λ (x : Wire). x.device) state;
+      loaded = ap (λ (x : Wire). x.loaded) state;
+      closed = ap (λ (x : Wire). x.closed) state;
+      quiet = nothing-left (reply_frames (r ∷ [])) u.out o;
+      phase = ap (λ (x : Wire). x.phase) state;
+      rest = ap (λ (x : Wire). x.rest) state;
+      taken = ap (λ (x : Wire). x.taken) state;
     }
 
-one-answer : (k l : ℕ) (command : CommandValue) (p answer : List ℕ) (reply : Reply) → command_of p ≡ command → Some reply ≡ reply_of answer → (w u : Wire) → IsValid w.device → IsReplied (Rose k l) p answer w u →
-    IsAnswered command reply w u ⊎ (Rose k l × IsFaulted command reply w u)
-one-answer k l command p answer reply c read w u valid (inl d) = inl (answered command p answer reply c read w u valid d)
-one-answer k l command p answer reply c read w u valid (inr f) = inr (f.0, faulted command p answer reply c read w u f.1)
+-- a command that a device says one reply to, which isn't DATA
+pub said-one : (c : CommandValue) (said : Said) (r end : Reply) (p : List ℕ) (infos : List Reply) (w u : Wire) → command_of p ≡ c → says w.device w.loaded c ≡ said → said.replies ≡ r ∷ [] → IsNoLoad r → w.out ≡ [] → IsSaid p (infos ++ end ∷ []) w u → IsOneReply said end r p w u
+said-one c said r end p infos w u e s one n quiet h =
+    let q : says w.device w.loaded (command_of p) ≡ said = ap (λ x. says w.device w.loaded x) e ∙ s in
+    let all : infos ++ end ∷ [] ≡ r ∷ [] = h.all ∙ (ap (λ (x : Said). x.replies) q ∙ one) in
+    let state : record u { out = reply_frames (r ∷ []) ++ u.out } ≡ record (answered said w) { rest = []; taken = w.taken + length (frame p) } =
+    ap (λ rs. record u { out = reply_frames rs ++ u.out }) (sym all)
+    ∙ (h.state ∙ ap (λ (x : Said). record (answered x w) { rest = []; taken = w.taken + length (frame p) }) q) in
+    one-reply said end r p w u n one (only-reply infos end r all) quiet (state ∙ done-one said r p w n one)
 
--- a reply that was heard and read
-pub Answered-read : (k l : ℕ) (a b : Option Peer) (command : CommandValue) (p answer : List ℕ) (reply : Reply) → ValidPeer a → spelling command ≡ Some p → Some reply ≡ reply_of answer → Replied k l a b p answer → Answered k l a b command reply
-Answered-read k l a b command p answer reply valid e read r =
-    with-on (λ w. IsValid w.device) (IsReplied (Rose k l) p answer) (λ w u. IsAnswered command reply w u ⊎ (Rose k l × IsFaulted command reply w u))
-    (one-answer k l command p answer reply (command_again command p e) read) a b valid r
+-- a device's reply to a question
+told_reply : Option (List ℕ) → Reply
+told_reply None = Fail (codes "unknown variable")
+told_reply (Some text) = Okay text
 
--- a relation that no two connections have
-pub on-none : (R : Wire → Wire → Type 0) → ((w v : Wire) → R w v → ⊥) → (a b : Option Peer) → OnLink R a b → a ≡ None
-on-none R never None None r = refl
-on-none R never None (Some b) r = absurd r
-on-none R never (Some (Apart dev)) b r = absurd r
-on-none R never (Some (Joined w)) None r = absurd r
-on-none R never (Some (Joined w)) (Some (Apart dev)) r = absurd r
-on-none R never (Some (Joined w)) (Some (Joined v)) r = absurd (never w v r)
+tells-one : (v : Option (List ℕ)) → tells v ≡ told_reply v ∷ []
+unfolding told_reply
+tells-one None = refl
+tells-one (Some text) = refl
 
-first-read : (replies : List Reply) (answer : List ℕ) → IsTrue (list_all reply_fits replies) → IsFirstOf answer (map reply_bytes replies) → None ≡ reply_of answer → ⊥
-first-read [] answer fits f read = absurd f
-first-read (r ∷ replies) answer fits f read =
-    let fit = (parts (reply_fits r) (list_all reply_fits replies) fits).0 in
-    let spelled : reply_spelling r ≡ Some answer = only-yes (reply_fits r) (reply_bytes r) fit ∙ ap Some (sym f) in
-    none-some r (read ∙ reply_again r answer spelled)
+told-plain : (v : Option (List ℕ)) → IsNoLoad (told_reply v)
+unfolding told_reply
+told-plain None = tt
+told-plain (Some text) = tt
 
-no-answer : (k l : ℕ) (p answer : List ℕ) → None ≡ reply_of answer → (w u : Wire) → IsValid w.device → IsReplied (Rose k l) p answer w u → ⊥
-no-answer k l p answer read w u valid (inl d) = first-read _ answer (says_replies w.device w.loaded p valid).0 d.first read
-no-answer k l p answer read w u valid (inr f) =
-    let fault : reply_spelling (Fail (codes "disk fault")) ≡ Some answer = ap Some (sym f.1.told) in
-    none-some (Fail (codes "disk fault")) (read ∙ reply_again (Fail (codes "disk fault")) answer fault)
-
--- what a told device says is always read
-pub unread-untold : (k l : ℕ) (a b : Option Peer) (p answer : List ℕ) → ValidPeer a → None ≡ reply_of answer → Replied k l a b p answer → a ≡ None
-unread-untold k l a b p answer valid read r =
-    on-none (λ w u. ⊥) (λ w u h. h) a b
-    (with-on (λ w. IsValid w.device) (IsReplied (Rose k l) p answer) (λ w u. ⊥) (no-answer k l p answer read) a b valid r)
-
--- room for a command
-pub Idle-room : (m n : ℕ) (a : Option Peer) → n ≤ m → Idle m a → Idle n a
-Idle-room m n a h i = Idle-less m n a h i
-
--- a reply that is read isn't another one
-not-fault : (answer : List ℕ) (reply : Reply) → Some reply ≡ reply_of answer → reply ≢ Fail (codes "disk fault") → answer ≢ disk_fault
-unfolding reply_of
-not-fault answer reply read other e = let k : Some reply ≡ Some (Fail (codes "disk fault")) = read ∙ ap reply_of e in other cc
-
-load-bytes : (n : ℕ) (answer : List ℕ) → Some (Load n) ≡ reply_of answer → IsData answer
-load-bytes n answer read =
-    let spelled : reply_spelling (Load n) ≡ Some answer = (reply_read (Load n) answer).1 (sym read) in
-    let bytes : reply_bytes (Load n) ≡ answer = (only-inverse (reply_fits (Load n)) (reply_bytes (Load n)) answer spelled).1 in
-    subst IsData bytes refl
-
-question-done : (broke : Type 0) (name p answer : List ℕ) → command_of p ≡ GetVar name → (w u : Wire) → IsReplied broke p answer w u → IsDone p answer w u
-question-done broke name p answer c w u (inl d) = d
-question-done broke name p answer c w u (inr f) = absurd (subst (λ x. Halts w.device w.loaded x u.device) c f.1.halts).change
-
--- a question is always answered
-Done-question : (k l : ℕ) (a b : Option Peer) (name p answer : List ℕ) → command_of p ≡ GetVar name → Replied k l a b p answer → Done a b p answer
-Done-question k l a b name p answer c r = on-on (IsReplied (Rose k l) p answer) (IsDone p answer) (question-done (Rose k l) name p answer c) a b r
-
-is-steady : (command : CommandValue) (p : List ℕ) → command_of p ≡ command → IsTrue (is_steady command) → IsTrue (is_steady (command_of p))
-is-steady command p c h = subst (λ x. IsTrue (is_steady x)) (sym c) h
-
--- what is behind a reply that was heard and read
-pub Behind-read : (k l more spare : ℕ) (a b : Option Peer) (command : CommandValue) (p answer : List ℕ) (reply : Reply) → ValidPeer a → length answer ≤ 256 → length p ≤ 4096 → 4104 + 9 * data_of command + spare ≤ more → spelling command ≡ Some p → Some reply ≡ reply_of answer → Idle more a → Replied k l a b p answer → Behind spare command reply b
-Behind-read k l more spare a b (GetVar name) p answer reply valid short room i e read idle r =
-    λ steady. Idle-steady spare a b p answer (is-steady (GetVar name) p (command_again (GetVar name) p e) steady) short (Idle-less more (8 + length p + spare) a (omega arith) idle) (AreShort-valid a p valid)
-    (Done-question k l a b name p answer (command_again (GetVar name) p e) r)
-Behind-read k l more spare a b (Flash name) p answer (Okay line) valid short room i e read idle r =
-    Idle-steady spare a b p answer (is-steady (Flash name) p (command_again (Flash name) p e) refl) short (Idle-less more (8 + length p + spare) a (omega arith) idle) (AreShort-valid a p valid)
-    (Done-but k l a b p answer (not-fault answer (Okay line) read (λ x. absurd cc)) r)
-Behind-read k l more spare a b (Download count) p answer (Load n) valid short room i e read idle r =
-    λ some. Receiving-told spare count a b p answer some short (command_again (Download count) p e) (load-bytes n answer read) (Idle-less more (8 + length p + 9 * count + spare) a (omega arith) idle) (AreShort-valid a p valid)
-    (Done-but k l a b p answer (not-fault answer (Load n) read (λ x. absurd cc)) r)
-Behind-read k l more spare a b (Flash name) p answer (Fail line) valid short room i e read idle r = tt
-Behind-read k l more spare a b (Flash name) p answer (Info line) valid short room i e read idle r = tt
-Behind-read k l more spare a b (Flash name) p answer (Text line) valid short room i e read idle r = tt
-Behind-read k l more spare a b (Flash name) p answer (Load n) valid short room i e read idle r = tt
-Behind-read k l more spare a b (Download count) p answer (Okay line) valid short room i e read idle r = tt
-Behind-read k l more spare a b (Download count) p answer (Fail line) valid short room i e read idle r = tt
-Behind-read k l more spare a b (Download count) p answer (Info line) valid short room i e read idle r = tt
-Behind-read k l more spare a b (Download count) p answer (Text line) valid short room i e read idle r = tt
-Behind-read k l more spare a b (text.Erase name) p answer reply valid short room i e read idle r = tt
-Behind-read k l more spare a b (text.SetActive slot) p answer reply valid short room i e read idle r = tt
-Behind-read k l more spare a b (text.Reboot target) p answer reply valid short room i e read idle r = tt
-Behind-read k l more spare a b text.Continue p answer reply valid short room i e read idle r = tt
-Behind-read k l more spare a b text.Lock p answer reply valid short room i e read idle r = tt
-Behind-read k l more spare a b text.Unlock p answer reply valid short room i e read idle r = tt
-Behind-read k l more spare a b text.UnlockAbility p answer reply valid short room i e read idle r = tt
-Behind-read k l more spare a b (text.UpdateSuper name wipe) p answer reply valid short room i e read idle r = tt
-Behind-read k l more spare a b (text.Create name size) p answer reply valid short room i e read idle r = tt
-Behind-read k l more spare a b (text.Delete name) p answer reply valid short room i e read idle r = tt
-Behind-read k l more spare a b (text.Resize name size) p answer reply valid short room i e read idle r = tt
-Behind-read k l more spare a b text.Unknown p answer reply valid short room i e read idle r = tt
-
--- a device's first reply to a question
-tells-okay : (v : Option (List ℕ)) (line : List ℕ) → first_reply (tells v) ≡ Some (Okay line) → Some line ≡ v
+tells-okay : (v : Option (List ℕ)) (line : List ℕ) → Okay line ≡ told_reply v → Some line ≡ v
+unfolding told_reply
 tells-okay None line e = absurd cc
 tells-okay (Some text) line e = cc
 
-tells-fail : (v : Option (List ℕ)) (line : List ℕ) → first_reply (tells v) ≡ Some (Fail line) → None ≡ v
+tells-fail : (v : Option (List ℕ)) (line : List ℕ) → Fail line ≡ told_reply v → None ≡ v
+unfolding told_reply
 tells-fail None line e = refl
 tells-fail (Some text) line e = absurd cc
 
-abbrev IsOther : Reply → Type 0
-IsOther (Okay line) = ⊥
-IsOther (Fail line) = ⊥
-IsOther (Info line) = Unit {0}
-IsOther (Text line) = Unit {0}
-IsOther (Load n) = Unit {0}
+not-all : (b : Bool) (n : List ℕ) → bytes_eq n (codes "all") ≡ b → IsTrue (is_first_question n) → bytes_eq n (codes "all") ≡ false
+not-all false n e q = e
+not-all true n e q = let same : n ≡ codes "all" = (bytes_eq-Decides n (codes "all")).0 e in let f : is_first_question (codes "all") ≡ true = subst (λ x. is_first_question x ≡ true) same q in absurd cc
 
-tells-other : (v : Option (List ℕ)) (reply : Reply) → IsOther reply → first_reply (tells v) ≡ Some reply → ⊥
-tells-other v (Okay line) o e = o
-tells-other v (Fail line) o e = o
-tells-other None (Info line) o e = absurd cc
-tells-other None (Text line) o e = absurd cc
-tells-other None (Load n) o e = absurd cc
-tells-other (Some text) (Info line) o e = absurd cc
-tells-other (Some text) (Text line) o e = absurd cc
-tells-other (Some text) (Load n) o e = absurd cc
-
-said : (dev : Dev) (loaded : Loaded) (name : List ℕ) → IsTrue (is_steady (GetVar name)) → says dev loaded (GetVar name) ≡ record { replies = tells (value dev name); device = dev; loaded = loaded; closed = false }
+question-said : (dev : Dev) (loaded : Loaded) (n : List ℕ) → IsTrue (is_first_question n) → says dev loaded (GetVar n) ≡ record { replies = tells (value dev n); device = dev; loaded = loaded; closed = false }
 unfolding says
-said dev loaded name steady = pick (bytes_eq name (codes "all")) steady
-  where
-    pick : (b : Bool) → not b ≡ true → (let s : Said = record { replies = cond b (tells_all dev) (tells (value dev name)); device = dev; loaded = loaded; closed = false } in s) ≡ record { replies = tells (value dev name); device = dev; loaded = loaded; closed = false }
-    pick true e = absurd cc
-    pick false e = refl
+question-said dev loaded n q =
+    ap (λ b. (let s : Said = record { replies = cond b (tells_all dev) (tells (value dev n)); device = dev; loaded = loaded; closed = false } in s)) (not-all (bytes_eq n (codes "all")) n refl q)
 
-abbrev Heard : ℕ → ℕ → CommandValue → Reply → Wire → Wire → Type 0
-Heard k l command reply w u = IsAnswered command reply w u ⊎ (Rose k l × IsFaulted command reply w u)
+question-short : (n p : List ℕ) → spelling (GetVar n) ≡ Some p → length p ≤ 4096
+question-short n p e =
+    let o = only-inverse (nat_le (length n) 4089) (codes "getvar:" ++ n) p e in
+    let short : length n ≤ 4089 = (let e = o.0 in grind (arith, nat_tests)) in
+    omega (arith, short, ap length o.1, length-append (codes "getvar:") n)
 
-told-answer : (k l : ℕ) (name : List ℕ) (reply : Reply) → IsTrue (is_steady (GetVar name)) → (w u : Wire) → Heard k l (GetVar name) reply w u → (first_reply (tells (value w.device name)) ≡ Some reply) × (u.device ≡ w.device)
-told-answer k l name reply steady w u (inl a) =
-    let s = said w.device w.loaded name steady in
-    (sym (ap (λ (x : Said). first_reply x.replies) s) ∙ a.first, a.device ∙ ap (λ (x : Said). x.device) s)
-told-answer k l name reply steady w u (inr f) = absurd f.1.halts.change
+told-so : (broke : Type 0) (n p : List ℕ) (infos : List Reply) (end : Reply) (text : Option (List ℕ)) → IsTrue (is_first_question n) → ((v : Option (List ℕ)) → end ≡ told_reply v → text ≡ v) → spelling (GetVar n) ≡ Some p → (w u : Wire) → IsFit 4104 w → IsAnswered broke p (infos ++ end ∷ []) w u → IsTold n text w u
+told-so broke n p infos end text q read e w u f (inl x) =
+    let v = value w.device n in
+    let o = said-one (GetVar n) (record { replies = tells v; device = w.device; loaded = w.loaded; closed = false }) (told_reply v) end p infos w u (command_again (GetVar n) p e) (question-said w.device w.loaded n q) (tells-one v) (told-plain v) f.between.quiet x in
+    record {
+      device = o.device;
+      tells = read v o.reply;
+      still = record {
+        running = o.closed;
+        quiet = o.quiet;
+        commanding = o.phase ∙ f.between.commanding;
+        rest = o.rest;
+        took = omega (arith, o.taken, length-frame p, question-short n p e);
+      };
+    }
+told-so broke n p infos end text q read e w u f (inr x) =
+    absurd (subst (λ c. Halts w.device w.loaded c u.device) (command_again (GetVar n) p e) x.1.halts).change
 
 -- the text of a variable
-pub Tells-text : (k l : ℕ) (a b : Option Peer) (name line : List ℕ) → IsTrue (is_steady (GetVar name)) → Answered k l a b (GetVar name) (Okay line) → Tells a b name (Some line)
-Tells-text k l a b name line steady h =
-    on-on (Heard k l (GetVar name) (Okay line)) (IsTold name (Some line))
-    (λ w u x. let t = told-answer k l name (Okay line) steady w u x in record { device = t.1; tells = tells-okay (value w.device name) line t.0 }) a b h
+Tells-read : (n : List ℕ) (a b : Seen) (end : Reply) (text : Option (List ℕ)) → IsTrue (is_first_question n) → ((v : Option (List ℕ)) → end ≡ told_reply v → text ≡ v) → Fit 4104 a.port.peer → Concluded (GetVar n) a b end → Tells n text a.port.peer b.port.peer
+Tells-read n a b end text q read f c =
+    with-on (IsFit 4104) (IsAnswered (Rose a.port.faults b.port.faults) c.payload (c.infos ++ end ∷ [])) (IsTold n text)
+    (told-so (Rose a.port.faults b.port.faults) n c.payload c.infos end text q read c.spelled) a.port.peer b.port.peer f c.told
 
-pub Tells-none : (k l : ℕ) (a b : Option Peer) (name line : List ℕ) → IsTrue (is_steady (GetVar name)) → Answered k l a b (GetVar name) (Fail line) → Tells a b name None
-Tells-none k l a b name line steady h =
-    on-on (Heard k l (GetVar name) (Fail line)) (IsTold name None)
-    (λ w u x. let t = told-answer k l name (Fail line) steady w u x in record { device = t.1; tells = tells-fail (value w.device name) line t.0 }) a b h
+pub Tells-okay : (n : List ℕ) (a b : Seen) (line : List ℕ) → IsTrue (is_first_question n) → Fit 4104 a.port.peer → Concluded (GetVar n) a b (Okay line) → Tells n (Some line) a.port.peer b.port.peer
+Tells-okay n a b line q f c = Tells-read n a b (Okay line) (Some line) q (λ v e. tells-okay v line e) f c
 
--- no told device answers a question otherwise
-pub untold-other : (k l : ℕ) (a b : Option Peer) (name : List ℕ) (reply : Reply) → IsTrue (is_steady (GetVar name)) → IsOther reply → Answered k l a b (GetVar name) reply → a ≡ None
-untold-other k l a b name reply steady o h =
-    on-none (Heard k l (GetVar name) reply) (λ w u x. tells-other (value w.device name) reply o (told-answer k l name reply steady w u x).0) a b h
+pub Tells-fail : (n : List ℕ) (a b : Seen) (line : List ℕ) → IsTrue (is_first_question n) → Fit 4104 a.port.peer → Concluded (GetVar n) a b (Fail line) → Tells n None a.port.peer b.port.peer
+Tells-fail n a b line q f c = Tells-read n a b (Fail line) None q (λ v e. tells-fail v line e) f c
 
--- a valid device stays so
-pub Valid-told : (a b : Option Peer) (name : List ℕ) (text : Option (List ℕ)) → ValidPeer a → Tells a b name text → ValidPeer b
-Valid-told a b name text valid t =
-    of-on (λ w. IsValid w.device) (IsTold name text) (λ w. IsValid w.device) (λ w u v x. subst IsValid (sym x.device) v) a b valid t
+-- a connection after a step is fit for less
+pub fit-after : (most spare : ℕ) (w u : Wire) → IsFit (most + spare) w → IsValid u.device → IsTrue (is_fastboot u.device.mode) → IsOpenStill most w u → IsFit spare u
+fit-after most spare w u f v s o = record {
+  between = record { quiet = o.quiet; commanding = o.commanding; rest = o.rest; valid = v };
+  serves = s;
+  free = record { running = o.running; bounded = omega (arith, o.took, f.free.bounded) };
+}
 
-pub ruleset tell_command = (Idle-room, written-some, Passes-taken, Answered-read, unread-untold, AreShort-valid, Behind-read)
+pub fit-same : (most spare : ℕ) (w u : Wire) → IsFit (most + spare) w → u.device ≡ w.device → IsOpenStill most w u → IsFit spare u
+fit-same most spare w u f e o =
+    fit-after most spare w u f (subst IsValid (sym e) f.between.valid) (subst (λ (d : Dev). IsTrue (is_fastboot d.mode)) (sym e) f.serves) o
 
-pub ruleset ask_variables = (Tells-text, Tells-none, untold-other, Valid-told)
+-- calls one after another
+pub alike-then : (a b c : Option Peer) → ToldAlike a b → ToldAlike b c → ToldAlike a c
+alike-then None None None r s = tt
+alike-then None None (Some c) r s = s
+alike-then None (Some b) c r s = absurd r
+alike-then (Some a) None c r s = absurd r
+alike-then (Some a) (Some b) None r s = s
+alike-then (Some a) (Some b) (Some c) r s = tt
+
+pub alike-hung : (a b : Option Peer) → HungUp a b → ToldAlike a b
+alike-hung None None h = tt
+alike-hung None (Some b) h = h
+alike-hung (Some a) None h = h
+alike-hung (Some a) (Some (Joined w)) h = tt
+alike-hung (Some a) (Some (Apart dev)) h = tt
+
+pub none-before : (a b : Option Peer) → ToldAlike a b → b ≡ None → a ≡ None
+none-before None b r e = refl
+none-before (Some a) None r e = absurd r
+none-before (Some a) (Some b) r e = absurd (none-some b (sym e))
+
+pub Moves-then : (a b c : PortTold) → Moves a b → Moves b c → Moves a c
+Moves-then a b c f g = record { kept = Kept-trans a b c f.kept g.kept; alike = alike-then a.peer b.peer c.peer f.alike g.alike }
+
+pub Moves-drops : (a b c : PortTold) → Moves a b → Drops b c → Moves a c
+Moves-drops a b c f g = record { kept = Kept-trans a b c f.kept g.kept; alike = alike-then a.peer b.peer c.peer f.alike (alike-hung b.peer c.peer g.left) }
+
+-- the connection was given up for what no device sends
+pub Stopped-unknown : (Refuses : List ℕ → Type 0) (a b c : PortTold) (kept : List ℕ) → Moves a b → Drops b c → a.peer ≡ None → IsStopped Refuses a c (Unknown kept)
+Stopped-unknown Refuses a b c kept f g n = record { moves = Moves-drops a b c f g; down = g.down; why = n }
+
+pub Stopped-refused : (Refuses : List ℕ → Type 0) (a b c : PortTold) (text : List ℕ) → Moves a b → Drops b c → Refuses text → IsStopped Refuses a c (Refused text)
+Stopped-refused Refuses a b c text f g r = record { moves = Moves-drops a b c f g; down = g.down; why = r }
+
+-- a command stopped after others
+pub cut-within : (a b c : PortTold) → Moves a b → IsCut b c → IsCut a c
+cut-within a b c f (inl r) = inl (omega (arith, f.kept.later, r))
+cut-within a b c f (inr r) = inr (none-before a.peer b.peer f.alike r.0, (let h = r.1 in omega (arith, f.kept.no_fewer, h)))
+
+pub why-within : (R Q : List ℕ → Type 0) (a b c : PortTold) → ((text : List ℕ) → R text → Q text) → Moves a b → (e : AskFail) → Why R b c e → Why Q a c e
+why-within R Q a b c r f Link w = cut-within a b c f w
+why-within R Q a b c r f (Refused text) w = r text w
+why-within R Q a b c r f (Unknown kept) w = none-before a.peer b.peer f.alike w
+
+pub Stopped-within : (R Q : List ℕ → Type 0) (a b c : PortTold) → ((text : List ℕ) → R text → Q text) → Moves a b → (e : AskFail) → IsStopped R b c e → IsStopped Q a c e
+Stopped-within R Q a b c r f e s = record { moves = Moves-then a b c f s.moves; down = s.down; why = why-within R Q a b c r f e s.why }
+
+pub Stopped-weaker : (R Q : List ℕ → Type 0) (a b : PortTold) → ((text : List ℕ) → R text → Q text) → (e : AskFail) → IsStopped R a b e → IsStopped Q a b e
+Stopped-weaker R Q a b r Link s = record { moves = s.moves; down = s.down; why = s.why }
+Stopped-weaker R Q a b r (Refused text) s = record { moves = s.moves; down = s.down; why = r text s.why }
+Stopped-weaker R Q a b r (Unknown kept) s = record { moves = s.moves; down = s.down; why = s.why }
+
+pub ruleset asks = (Free-fit, Alike-exchanged, Tells-okay, Tells-fail)
+
+-- what is kept fits a line
+short-front : (bytes : List ℕ) → length (take 252 bytes) ≤ 252
+short-front bytes = let n = length-take 252 bytes in omega (arith, n)
+
+pub line-front : (bytes : List ℕ) → line_of (take 252 bytes) ≡ Some (take 252 bytes)
+line-front bytes = let h = short-front bytes in let k : nat_le (length (take 252 bytes)) 252 ≡ true = grind (arith, nat_tests) in ap (λ b. only_if b (take 252 bytes)) k
+
+pub line-is : (bytes front x : List ℕ) → front ≡ take 252 bytes → Some x ≡ line_of front → x ≡ take 252 bytes
+line-is bytes front x e f = let s : Some x ≡ Some (take 252 bytes) = f ∙ (ap line_of e ∙ line-front bytes) in cc
+
+pub some-line : (bytes front : List ℕ) (o : Option (List ℕ)) → front ≡ take 252 bytes → o ≡ line_of front → IsSome o
+some-line bytes front o e f = subst IsSome (sym (f ∙ (ap line_of e ∙ line-front bytes))) refl
+
+pub ruleset keeps = (line-front, line-is)
+
+-- what holds of an error
+pub if-err : {T E : Type 0} (P Q : E → Type 0) → ((e : E) → P e → Q e) → (r : Result T E) → IfErr r P → IfErr r Q
+if-err P Q f (Ok x) h = tt
+if-err P Q f (Err e) h = f e h

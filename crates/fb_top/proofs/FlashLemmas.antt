@@ -1,18 +1,19 @@
--- A download, a flash and a reboot of a told device are what the definitions say.
-use Rattle.std.proofs.Common.{◌≡◌, ◌≢◌, ◌⊎◌, inl, inr, ℕ, ◌≤◌, true, false, not, ◌&&◌, List, [], ◌∷◌, ◌++◌, length, map, Option, Some, None, refl, sym, ap, ◌∙◌, subst, arith, nat_le, nat_lt, append-nil}
+-- A flash and a reboot over a connection are the steps that the definitions say.
+use Rattle.std.proofs.Common.{◌≡◌, ◌⊎◌, inl, inr, ℕ, ◌+◌, ◌*◌, ◌<◌, ◌≤◌, nat_le, Bool, true, false, not, ◌&&◌, List, [], ◌∷◌, ◌++◌, length, map, Option, Some, None, refl, sym, ap, ◌∙◌, subst, arith, length-append}
 use Rattle.std.specs.Prelude.{IsTrue, codes, is_none, option_and_then, unwrap_or}
-use Rattle.std.proofs.lemmas.Option.{none-some}
-use Rattle.std.proofs.lemmas.Bool.Decides.{nat_tests}
 use Rattle.fb_frame.specs.Causes.{Rose}
-use Rattle.fb_frame.specs.Framing.{frame}
+use Rattle.std.specs.List.{list_all}
+use Rattle.std.proofs.lemmas.Bool.Decides.{nat_tests}
+use Rattle.fb_frame.specs.NameText.{is_name_byte, is_name, IsName}
 use Rattle.fb_message.specs.declared.reply.Reply.{Reply}
-use Rattle.fb_message.specs.declared.reply.Reply.TheVariants.{Okay, Fail, Info, Text, Load}
+use Rattle.fb_message.specs.declared.reply.Reply.TheVariants.{Okay, Fail}
 use Rattle.fb_message.specs.declared.command.BootTarget.TheVariants as target
-use Rattle.fb_message.specs.CommandText.{CommandValue, Download, Flash, Reboot}
-use Rattle.fb_message.proofs.Words.{parts}
+use Rattle.fb_message.specs.CommandText.{CommandValue, Flash, Reboot, command_of, spelling}
+use Rattle.fb_message.proofs.Words.{only-inverse, parts}
+use Rattle.fb_message.proofs.Commands.{command_again}
 use Rattle.dev_model.specs.declared.cells.Cell.TheVariants.{Byte}
 use Rattle.dev_model.specs.declared.device.Dev.{Dev}
-use Rattle.dev_model.specs.declared.device.Mode.TheVariants.{System}
+use Rattle.dev_model.specs.declared.device.Mode.TheVariants.{System, Halted}
 use Rattle.dev_model.specs.declared.step.Step.{Step}
 use Rattle.dev_model.specs.declared.step.Step.TheVariants.{Put, Boot}
 use Rattle.dev_model.specs.Images.{image, is_sparse}
@@ -21,131 +22,47 @@ use Rattle.dev_model.specs.Refusals.{flash_refusal, refusal_of}
 use Rattle.dev_model.specs.Steps.{can, apply}
 use Rattle.dev_model.specs.Validity.{IsValid}
 use Rattle.dev_model.proofs.Taken.{takes_unless_refused, flash_refuses_as_put}
-use Rattle.wire_told.specs.Peers.{Peer, Apart, Joined, OnLink}
-use Rattle.wire_told.specs.FirstPath.{is_raw}
+use Rattle.wire_told.specs.Answered.{IsSaid, IsAnswered}
+use Rattle.wire_told.specs.FirstPath.{is_first_path, is_raw, PassesFirst}
+use Rattle.wire_model.specs.Halts.{Halts}
+use Rattle.wire_told.specs.Peers.{Peer, Apart, Joined, device_of, OfLink, OnLink}
+use Rattle.wire_told.specs.Ports.{PortTold, Drops}
 use Rattle.wire_model.specs.Says.{Loaded, Said, says, decides, leaves, loaded_image}
+use Rattle.wire_model.specs.Replies.{IsNoLoad}
+use Rattle.wire_told.specs.Told.{HungUp}
+use Rattle.wire_told.specs.Turns.{CommandTest}
 use Rattle.wire_model.specs.Wire.{Wire}
-use Rattle.wire_told.specs.Told.{IsIdle, Idle, IsLoaded, LoadedBy, Answers, IsAnswering, HeardReply}
-use Rattle.wire_told.proofs.Lifted.{of-of, of-on, on-on, with-on, on-then}
-use Rattle.wire_told.proofs.AnswerLemmas.{frame-front}
-use Rattle.fb_top.specs.Asking.{IsAnswered, IsFaulted, Answered, ValidPeer, IsTaken, first_reply}
+use Rattle.wire_told.proofs.Lifted.{of-of, of-on, on-on, on-then, with-on}
+use Rattle.wire_told.proofs.OneFrames.{length-frame}
+use Rattle.fb_link.specs.Concluded.{Concluded, CommandPasses}
+use Rattle.fb_link.specs.Seen.{Seen}
+use Rattle.fb_top.specs.declared.asking.AskFail.{AskFail}
+use Rattle.fb_top.specs.Asking.{IsFit, Fit, IsOpenStill, Moves, IsStopped, NeverRefuses}
 use Rattle.fb_top.specs.Products.{IsRawImage, most_bytes}
-use Rattle.fb_top.specs.Flashing.{Serves, IsDownloaded, Downloaded, Takes, Refuses, OnDevice, put_step, Took, Refused}
-use Rattle.fb_top.proofs.AskingLemmas.{on-none}
+use Rattle.fb_top.specs.Flashing.{IsDownloaded, Downloaded, HasLoaded, Takes, Refuses, OnDevice, put_step, IsFlashed, Flashed, Took, HasHalted, IsFaulted, Refused}
+use Rattle.fb_top.proofs.AskingLemmas.{only-reply, said-one, IsOneReply, Passes-taken, Stopped-within, Stopped-weaker, fit-same}
 use Rattle.fb_top.proofs.ImageLemmas.{image-raw}
 
-abbrev Replies : ℕ → ℕ → CommandValue → Reply → Wire → Wire → Type 0
-Replies k l command reply w u = IsAnswered command reply w u ⊎ (Rose k l × IsFaulted command reply w u)
-
--- the device is the same
-abbrev pub Same : Option Peer → Option Peer → Type 0
-Same a b = OnLink (λ w u. u.device ≡ w.device) a b
-
--- every port takes a download
-pub IsTaken-download : (spare : ℕ) (a : Option Peer) (count : ℕ) → Idle spare a → IsTaken a (Download count)
-IsTaken-download spare a count i = of-of (IsIdle spare) (λ w. IsTrue true) (λ w x. refl) a i
-
--- a valid device awaits at most 131,072 bytes
-small-download : (dev : Dev) (loaded : Loaded) (count : ℕ) → IsValid dev → count ≤ most_bytes → says dev loaded (Download count) ≡ record { replies = Load count ∷ []; device = dev; loaded = None; closed = false }
-unfolding says
-small-download dev loaded count valid h =
-    let low = (parts (nat_le 131072 dev.max) (nat_le dev.max 268435456) valid.download).0 in
-    let small : nat_lt dev.max count ≡ false = grind (arith, nat_tests, low) in
-    rw small refl
-
-download-answer : (k l count : ℕ) (reply : Reply) → count ≤ most_bytes → (w u : Wire) → IsValid w.device → Replies k l (Download count) reply w u → (reply ≡ Load count) × (u.device ≡ w.device)
-download-answer k l count reply h w u valid (inl a) =
-    let s = small-download w.device w.loaded count valid h in
-    let r : Some (Load count) ≡ Some reply = sym (ap (λ (x : Said). first_reply x.replies) s) ∙ a.first in
-    (cc, a.device ∙ ap (λ (x : Said). x.device) s)
-download-answer k l count reply h w u valid (inr f) = absurd f.1.halts.change
-
--- behind DATA the device is the same
-pub Same-download : (k l count : ℕ) (a b : Option Peer) (reply : Reply) → count ≤ most_bytes → ValidPeer a → Answered k l a b (Download count) reply → Same a b
-Same-download k l count a b reply h valid x =
-    with-on (λ w. IsValid w.device) (Replies k l (Download count) reply) (λ w u. u.device ≡ w.device)
-    (λ w u v r. (download-answer k l count reply h w u v r).1) a b valid x
-
--- and no told device answers otherwise
-pub untold-download : (k l count : ℕ) (a b : Option Peer) (reply : Reply) → count ≤ most_bytes → reply ≢ Load count → ValidPeer a → Answered k l a b (Download count) reply → a ≡ None
-untold-download k l count a b reply h other valid x =
-    on-none (λ w u. ⊥) (λ w u n. n) a b
-    (with-on (λ w. IsValid w.device) (Replies k l (Download count) reply) (λ w u. ⊥)
-    (λ w u v r. other (download-answer k l count reply h w u v r).0) a b valid x)
-
--- an OKAY is left to hear
-loaded-answering : (spare : ℕ) (got : List ℕ) (w v : Wire) → IsLoaded spare got w v → IsAnswering v
-loaded-answering spare got w v l = record { reply = codes "OKAY"; more = []; left = l.out ∙ sym (append-nil (frame (codes "OKAY"))); short = omega arith }
-
-pub Answers-loaded : (spare : ℕ) (got : List ℕ) (b c : Option Peer) → LoadedBy spare got b c → Answers c
-Answers-loaded spare got None None l = tt
-Answers-loaded spare got None (Some c) l = absurd l
-Answers-loaded spare got (Some (Apart dev)) c l = absurd l
-Answers-loaded spare got (Some (Joined w)) None l = absurd l
-Answers-loaded spare got (Some (Joined w)) (Some (Apart dev)) l = absurd l
-Answers-loaded spare got (Some (Joined w)) (Some (Joined v)) l = loaded-answering spare got w v l
-
--- it is heard
-heard-okay : (spare : ℕ) (got answer : List ℕ) → length answer ≤ 256 → (w v u : Wire) → IsLoaded spare got w v → v ≡ record u { out = frame answer ++ u.out } → (answer ≡ codes "OKAY") × IsDownloaded spare got w u
-heard-okay spare got answer short w v u l h =
-    let o : frame answer ++ u.out ≡ frame (codes "OKAY") ++ [] = sym (ap (λ (x : Wire). x.out) h) ∙ (l.out ∙ sym (append-nil (frame (codes "OKAY")))) in
-    let both = frame-front answer (codes "OKAY") u.out [] (omega (arith, short)) (omega arith) o in (
-      both.0,
-      record {
-        device = sym (ap (λ (x : Wire). x.device) h) ∙ l.device;
-        loaded = sym (ap (λ (x : Wire). x.loaded) h) ∙ l.loaded;
-        idle = record {
-          running = sym (ap (λ (x : Wire). x.closed) h) ∙ l.running;
-          quiet = both.1;
-          commanding = sym (ap (λ (x : Wire). x.phase) h) ∙ l.commanding;
-          rest = sym (ap (λ (x : Wire). x.rest) h) ∙ l.rest;
-          bounded = (let e : v.taken ≡ u.taken = ap (λ (x : Wire). x.taken) h in omega (arith, l.bounded, e));
-        };
-      },
-    )
-
-pub Downloaded-heard : (spare : ℕ) (got answer : List ℕ) (a b c d : Option Peer) → length answer ≤ 256 → Same a b → LoadedBy spare got b c → HeardReply c d answer → Downloaded spare got a d
-unfolding HeardReply
-Downloaded-heard spare got answer a b c d short s l h =
-    on-then (λ w u. u.device ≡ w.device) (IsDownloaded spare got) (IsDownloaded spare got)
-    (λ w u v x y. record { device = y.device ∙ x; loaded = y.loaded; idle = y.idle }) a b d s
-    (on-then (IsLoaded spare got) (λ v u. v ≡ record u { out = frame answer ++ u.out }) (IsDownloaded spare got)
-    (λ w v u x y. (heard-okay spare got answer short w v u x y).1) b c d l h)
-
-pub untold-okay : (spare : ℕ) (got answer : List ℕ) (a b c d : Option Peer) → length answer ≤ 256 → answer ≢ codes "OKAY" → Same a b → LoadedBy spare got b c → HeardReply c d answer → a ≡ None
-unfolding HeardReply
-untold-okay spare got answer a b c d short other s l h =
-    on-none (λ w u. ⊥) (λ w u n. n) a d
-    (on-then (λ w u. u.device ≡ w.device) (λ w u. ⊥) (λ w u. ⊥) (λ w u v x y. y) a b d s
-    (on-then (IsLoaded spare got) (λ v u. v ≡ record u { out = frame answer ++ u.out }) (λ w u. ⊥)
-    (λ w v u x y. other (heard-okay spare got answer short w v u x y).0) b c d l h))
-
-pub ruleset downloads = (IsTaken-download, Same-download, untold-download, Answers-loaded, Downloaded-heard, untold-okay)
-
 -- every port takes a flash of what isn't sparse
-raw-loaded : (image : List ℕ) (loaded : Loaded) → is_sparse image ≡ false → loaded ≡ Some image → is_raw loaded ≡ true
-raw-loaded image loaded raw e = ap is_raw e ∙ ap not raw
+raw-loaded : (bytes : List ℕ) (loaded : Loaded) → is_sparse bytes ≡ false → loaded ≡ Some bytes → is_raw loaded ≡ true
+raw-loaded bytes loaded raw e = ap is_raw e ∙ ap not raw
 
-pub IsTaken-flash : (spare : ℕ) (a b : Option Peer) (name image : List ℕ) → IsRawImage image → Downloaded spare image a b → IsTaken b (Flash name)
-IsTaken-flash spare None None name image raw d = tt
-IsTaken-flash spare None (Some b) name image raw d = absurd d
-IsTaken-flash spare (Some (Apart dev)) b name image raw d = absurd d
-IsTaken-flash spare (Some (Joined w)) None name image raw d = absurd d
-IsTaken-flash spare (Some (Joined w)) (Some (Apart dev)) name image raw d = absurd d
-IsTaken-flash spare (Some (Joined w)) (Some (Joined u)) name image raw d = raw-loaded image u.loaded raw.raw d.loaded
+pub Passes-flash : (test : CommandTest) (a : Option Peer) (name bytes : List ℕ) → PassesFirst test → IsRawImage bytes → HasLoaded bytes a → CommandPasses test a (Flash name)
+Passes-flash test a name bytes first raw l =
+    Passes-taken test (Flash name) a first (of-of (λ w. w.loaded ≡ Some bytes) (λ w. IsTrue (is_first_path w.loaded (Flash name))) (λ w e. raw-loaded bytes w.loaded raw.raw e) a l)
 
--- behind a download the next command is awaited, of a device that is as it was
-pub Idle-downloaded : (spare : ℕ) (image : List ℕ) (a b : Option Peer) → Downloaded spare image a b → Idle spare b
-Idle-downloaded spare image None None d = tt
-Idle-downloaded spare image None (Some b) d = absurd d
-Idle-downloaded spare image (Some (Apart dev)) b d = absurd d
-Idle-downloaded spare image (Some (Joined w)) None d = absurd d
-Idle-downloaded spare image (Some (Joined w)) (Some (Apart dev)) d = absurd d
-Idle-downloaded spare image (Some (Joined w)) (Some (Joined u)) d = d.idle
+-- behind a download the image is loaded
+pub Loaded-downloaded : (bytes : List ℕ) (a b : Option Peer) → Downloaded bytes a b → HasLoaded bytes b
+Loaded-downloaded bytes None None d = tt
+Loaded-downloaded bytes None (Some b) d = absurd d
+Loaded-downloaded bytes (Some (Apart dev)) b d = absurd d
+Loaded-downloaded bytes (Some (Joined w)) None d = absurd d
+Loaded-downloaded bytes (Some (Joined w)) (Some (Apart dev)) d = absurd d
+Loaded-downloaded bytes (Some (Joined w)) (Some (Joined u)) d = d.loaded
 
-pub Valid-downloaded : (spare : ℕ) (image : List ℕ) (a b : Option Peer) → ValidPeer a → Downloaded spare image a b → ValidPeer b
-Valid-downloaded spare image a b valid d =
-    of-on (λ w. IsValid w.device) (IsDownloaded spare image) (λ w. IsValid w.device) (λ w u v x. subst IsValid (sym x.device) v) a b valid d
+pub Fit-downloaded : (spare : ℕ) (bytes : List ℕ) (a b : Option Peer) → Fit ((4104 + 9 * length bytes) + spare) a → Downloaded bytes a b → Fit spare b
+Fit-downloaded spare bytes a b f d =
+    of-on (IsFit ((4104 + 9 * length bytes) + spare)) (IsDownloaded bytes) (IsFit spare) (λ w u p q. fit-same (4104 + 9 * length bytes) spare w u p q.device q.still) a b f d
 
 -- the image that is flashed
 loaded-cells : (loaded : Loaded) (bytes : List ℕ) → IsRawImage bytes → loaded ≡ Some bytes → option_and_then image loaded ≡ Some (map Byte bytes)
@@ -161,168 +78,214 @@ flash-said : (dev : Dev) (loaded : Loaded) (name : List ℕ) → says dev loaded
 unfolding says
 flash-said dev loaded name = refl
 
-decided-okay : (o : Option (List ℕ)) (change : Dev → Dev) (dev : Dev) (loaded : Loaded) (line : List ℕ) → first_reply (decides o change dev loaded).replies ≡ Some (Okay line) → (o ≡ None) × ((decides o change dev loaded).device ≡ change dev)
+pub name-short : (name : List ℕ) → IsName name → length name ≤ 35
+name-short name h =
+    let both = parts (nat_le 1 (length name) && nat_le (length name) 35) (list_all is_name_byte name) h in
+    let most = (parts (nat_le 1 (length name)) (nat_le (length name) 35) both.0).1 in
+    let k : length name ≤ 35 = grind (arith, nat_tests) in k
+
+flash-short : (name p : List ℕ) → spelling (Flash name) ≡ Some p → length p ≤ 4096
+flash-short name p e =
+    let o = only-inverse (is_name name) (codes "flash:" ++ name) p e in
+    omega (arith, name-short name o.0, ap length o.1, length-append (codes "flash:") name)
+
+decided_reply : Option (List ℕ) → Reply
+decided_reply None = Okay []
+decided_reply (Some text) = Fail text
+
+decides-one : (o : Option (List ℕ)) (change : Dev → Dev) (dev : Dev) (loaded : Loaded) → (decides o change dev loaded).replies ≡ decided_reply o ∷ []
+unfolding decided_reply
+decides-one None change dev loaded = refl
+decides-one (Some text) change dev loaded = refl
+
+decided-plain : (o : Option (List ℕ)) → IsNoLoad (decided_reply o)
+unfolding decided_reply
+decided-plain None = tt
+decided-plain (Some text) = tt
+
+decides-open : (o : Option (List ℕ)) (change : Dev → Dev) (dev : Dev) (loaded : Loaded) → (decides o change dev loaded).closed ≡ false
+decides-open None change dev loaded = refl
+decides-open (Some text) change dev loaded = refl
+
+decided-okay : (o : Option (List ℕ)) (change : Dev → Dev) (dev : Dev) (loaded : Loaded) (line : List ℕ) → Okay line ≡ decided_reply o → (o ≡ None) × ((decides o change dev loaded).device ≡ change dev)
+unfolding decided_reply
 decided-okay None change dev loaded line e = (refl, refl)
 decided-okay (Some text) change dev loaded line e = absurd cc
 
-decided-fail : (o : Option (List ℕ)) (change : Dev → Dev) (dev : Dev) (loaded : Loaded) (line : List ℕ) → first_reply (decides o change dev loaded).replies ≡ Some (Fail line) → (o ≡ Some line) × ((decides o change dev loaded).device ≡ dev)
+decided-fail : (o : Option (List ℕ)) (change : Dev → Dev) (dev : Dev) (loaded : Loaded) (line : List ℕ) → Fail line ≡ decided_reply o → (o ≡ Some line) × ((decides o change dev loaded).device ≡ dev)
+unfolding decided_reply
 decided-fail None change dev loaded line e = absurd cc
 decided-fail (Some text) change dev loaded line e = (cc, refl)
 
-abbrev IsOther : Reply → Type 0
-IsOther (Okay line) = ⊥
-IsOther (Fail line) = ⊥
-IsOther (Info line) = Unit {0}
-IsOther (Text line) = Unit {0}
-IsOther (Load n) = Unit {0}
+okay-fault : (infos : List Reply) (line : List ℕ) → infos ++ Okay line ∷ [] ≡ Fail (codes "disk fault") ∷ [] → ⊥
+okay-fault infos line e = let same : Okay line ≡ Fail (codes "disk fault") = only-reply infos (Okay line) (Fail (codes "disk fault")) e in cc
 
-decided-other : (o : Option (List ℕ)) (change : Dev → Dev) (dev : Dev) (loaded : Loaded) (reply : Reply) → IsOther reply → first_reply (decides o change dev loaded).replies ≡ Some reply → ⊥
-decided-other o change dev loaded (Okay line) n e = n
-decided-other o change dev loaded (Fail line) n e = n
-decided-other None change dev loaded (Info line) n e = absurd cc
-decided-other None change dev loaded (Text line) n e = absurd cc
-decided-other None change dev loaded (Load c) n e = absurd cc
-decided-other (Some text) change dev loaded (Info line) n e = absurd cc
-decided-other (Some text) change dev loaded (Text line) n e = absurd cc
-decided-other (Some text) change dev loaded (Load c) n e = absurd cc
+fail-fault : (infos : List Reply) (line : List ℕ) → infos ++ Fail line ∷ [] ≡ Fail (codes "disk fault") ∷ [] → line ≡ codes "disk fault"
+fail-fault infos line e = let same : Fail line ≡ Fail (codes "disk fault") = only-reply infos (Fail line) (Fail (codes "disk fault")) e in cc
 
-fault-other : (reply : Reply) → IsOther reply → reply ≡ Fail (codes "disk fault") → ⊥
-fault-other (Okay line) n e = n
-fault-other (Fail line) n e = n
-fault-other (Info line) n e = absurd cc
-fault-other (Text line) n e = absurd cc
-fault-other (Load c) n e = absurd cc
+flash-one : (name p : List ℕ) (infos : List Reply) (end : Reply) (w u : Wire) → spelling (Flash name) ≡ Some p → IsFit 4104 w → IsSaid p (infos ++ end ∷ []) w u →
+    IsOneReply (decides (flash_refusal w.device w.loaded name) (apply (Put name (loaded_image w.loaded))) w.device w.loaded) end (decided_reply (flash_refusal w.device w.loaded name)) p w u
+flash-one name p infos end w u e f x =
+    let o = flash_refusal w.device w.loaded name in
+    let change = apply (Put name (loaded_image w.loaded)) in
+    said-one (Flash name) (decides o change w.device w.loaded) (decided_reply o) end p infos w u (command_again (Flash name) p e) (flash-said w.device w.loaded name) (decides-one o change w.device w.loaded) (decided-plain o) f.between.quiet x
 
-flashed-okay : (k l : ℕ) (name bytes line : List ℕ) → IsRawImage bytes → (w u : Wire) → IsTrue (is_fastboot w.device.mode) → w.loaded ≡ Some bytes → Replies k l (Flash name) (Okay line) w u → Takes (put_step name bytes) w.device u.device
-flashed-okay k l name bytes line raw w u serves e (inl a) =
-    let said = flash-said w.device w.loaded name in
-    let first = sym (ap (λ (x : Said). first_reply x.replies) said) ∙ a.first in
-    let okay = decided-okay (flash_refusal w.device w.loaded name) (apply (Put name (loaded_image w.loaded))) w.device w.loaded line first in
-    let none : refusal_of (put_step name bytes) w.device ≡ None = sym (flash-refuses w.device w.loaded name bytes raw e) ∙ okay.0 in
+flashed-so : (broke : Type 0) (name bytes line p : List ℕ) (infos : List Reply) → IsRawImage bytes → spelling (Flash name) ≡ Some p → (w u : Wire) → IsFit 4104 w × (w.loaded ≡ Some bytes) → IsAnswered broke p (infos ++ Okay line ∷ []) w u → IsFlashed 4104 (put_step name bytes) w u
+flashed-so broke name bytes line p infos raw e w u f (inl x) =
+    let r = flash-one name p infos (Okay line) w u e f.0 x in
+    let okay = decided-okay (flash_refusal w.device w.loaded name) (apply (Put name (loaded_image w.loaded))) w.device w.loaded line r.reply in
+    let none : refusal_of (put_step name bytes) w.device ≡ None = sym (flash-refuses w.device w.loaded name bytes raw f.1) ∙ okay.0 in
     record {
-      can_so = takes_unless_refused (put_step name bytes) w.device serves ∙ ap is_none none;
-      taken = a.device ∙ (ap (λ (x : Said). x.device) said ∙ (okay.1 ∙ ap (λ o. apply (Put name (unwrap_or o [])) w.device) (loaded-cells w.loaded bytes raw e)));
+      takes = record {
+        can_so = takes_unless_refused (put_step name bytes) w.device f.0.serves ∙ ap is_none none;
+        taken = r.device ∙ (okay.1 ∙ ap (λ o. apply (Put name (unwrap_or o [])) w.device) (loaded-cells w.loaded bytes raw f.1));
+      };
+      still = record {
+        running = r.closed ∙ decides-open (flash_refusal w.device w.loaded name) (apply (Put name (loaded_image w.loaded))) w.device w.loaded;
+        quiet = r.quiet;
+        commanding = r.phase ∙ f.0.between.commanding;
+        rest = r.rest;
+        took = omega (arith, r.taken, length-frame p, flash-short name p e);
+      };
     }
-flashed-okay k l name bytes line raw w u serves e (inr f) = absurd (let t : Okay line ≡ Fail (codes "disk fault") = f.1.told in cc)
+flashed-so broke name bytes line p infos raw e w u f (inr x) = absurd (okay-fault infos line x.1.told)
 
-flashed-fail : (k l : ℕ) (name bytes line : List ℕ) → IsRawImage bytes → (w u : Wire) → w.loaded ≡ Some bytes → Replies k l (Flash name) (Fail line) w u → Refuses (put_step name bytes) line w.device u.device ⊎ Rose k l
-flashed-fail k l name bytes line raw w u e (inl a) =
-    let said = flash-said w.device w.loaded name in
-    let first = sym (ap (λ (x : Said). first_reply x.replies) said) ∙ a.first in
-    let fail = decided-fail (flash_refusal w.device w.loaded name) (apply (Put name (loaded_image w.loaded))) w.device w.loaded line first in
-    inl (record {
-      refusal = sym (flash-refuses w.device w.loaded name bytes raw e) ∙ fail.0;
-      same = a.device ∙ (ap (λ (x : Said). x.device) said ∙ fail.1);
-    })
-flashed-fail k l name bytes line raw w u e (inr f) = inr f.0
+fit-loaded : (bytes : List ℕ) (a : Option Peer) → Fit 4104 a → HasLoaded bytes a → OfLink (λ w. IsFit 4104 w × (w.loaded ≡ Some bytes)) a
+fit-loaded bytes None f l = tt
+fit-loaded bytes (Some (Apart dev)) f l = absurd f
+fit-loaded bytes (Some (Joined w)) f l = (f, l)
 
-flashed-other : (k l : ℕ) (name : List ℕ) (reply : Reply) → IsOther reply → (w u : Wire) → Replies k l (Flash name) reply w u → ⊥
-flashed-other k l name reply n w u (inl a) =
-    let said = flash-said w.device w.loaded name in
-    decided-other (flash_refusal w.device w.loaded name) (apply (Put name (loaded_image w.loaded))) w.device w.loaded reply n (sym (ap (λ (x : Said). first_reply x.replies) said) ∙ a.first)
-flashed-other k l name reply n w u (inr f) = fault-other reply n f.1.told
+pub Flashed-okay : (name bytes line : List ℕ) (a b : Seen) → IsRawImage bytes → Fit 4104 a.port.peer → HasLoaded bytes a.port.peer → Concluded (Flash name) a b (Okay line) → Flashed 4104 (put_step name bytes) a.port.peer b.port.peer
+Flashed-okay name bytes line a b raw f l c =
+    with-on (λ w. IsFit 4104 w × (w.loaded ≡ Some bytes)) (IsAnswered (Rose a.port.faults b.port.faults) c.payload (c.infos ++ Okay line ∷ [])) (IsFlashed 4104 (put_step name bytes))
+    (flashed-so (Rose a.port.faults b.port.faults) name bytes line c.payload c.infos raw c.spelled) a.port.peer b.port.peer (fit-loaded bytes a.port.peer f l) c.told
 
--- relations of connections as relations of devices
-on-device : (R : Wire → Wire → Type 0) (S : Dev → Dev → Type 0) → ((w u : Wire) → R w u → S w.device u.device) → (a b : Option Peer) → OnLink R a b → OnDevice S a b
-on-device R S f None None r = tt
-on-device R S f None (Some b) r = absurd r
-on-device R S f (Some (Apart dev)) b r = absurd r
-on-device R S f (Some (Joined w)) None r = absurd r
-on-device R S f (Some (Joined w)) (Some (Apart dev)) r = absurd r
-on-device R S f (Some (Joined w)) (Some (Joined u)) r = f w u r
+-- A device that refuses a step, or whose disk failed in it.
+IsRefusing : Type 0 → Step → List ℕ → Dev → Dev → Type 0
+IsRefusing broke step text s t = Refuses step text s t ⊎ (broke × (text ≡ codes "disk fault") × (t.mode ≡ Halted))
 
--- a device that took an image
-pub Took-flash : (k l spare : ℕ) (a b c : Option Peer) (name bytes line : List ℕ) → IsRawImage bytes → Serves a → Downloaded spare bytes a b → Answered k l b c (Flash name) (Okay line) → Took (put_step name bytes) a c
-Took-flash k l spare a b c name bytes line raw serves d x =
-    on-device (λ w v. Takes (put_step name bytes) w.device v.device) (Takes (put_step name bytes)) (λ w v t. t) a c
-    (with-on (λ w. IsTrue (is_fastboot w.device.mode)) (λ w v. IsTrue (is_fastboot w.device.mode) → Takes (put_step name bytes) w.device v.device) (λ w v. Takes (put_step name bytes) w.device v.device) (λ w v s f. f s) a c serves
-    (on-then (IsDownloaded spare bytes) (Replies k l (Flash name) (Okay line)) (λ w v. IsTrue (is_fastboot w.device.mode) → Takes (put_step name bytes) w.device v.device)
-    (λ w u v y z s. let t = flashed-okay k l name bytes line raw u v (subst (λ (q : Dev). IsTrue (is_fastboot q.mode)) (sym y.device) s) y.loaded z in
-    subst (λ (q : Dev). Takes (put_step name bytes) q v.device) y.device t) a b c d x))
+refusing-so : (broke : Type 0) (name bytes text p : List ℕ) (infos : List Reply) → IsRawImage bytes → spelling (Flash name) ≡ Some p → (w u : Wire) → IsFit 4104 w × (w.loaded ≡ Some bytes) → IsAnswered broke p (infos ++ Fail text ∷ []) w u → IsRefusing broke (put_step name bytes) text w.device u.device
+unfolding IsRefusing
+refusing-so broke name bytes text p infos raw e w u f (inl x) =
+    let r = flash-one name p infos (Fail text) w u e f.0 x in
+    let fail = decided-fail (flash_refusal w.device w.loaded name) (apply (Put name (loaded_image w.loaded))) w.device w.loaded text r.reply in
+    inl (record { refusal = sym (flash-refuses w.device w.loaded name bytes raw f.1) ∙ fail.0; same = r.device ∙ fail.1 })
+refusing-so broke name bytes text p infos raw e w u f (inr x) =
+    let halts = subst (λ c. Halts w.device w.loaded c u.device) (command_again (Flash name) p e) x.1.halts in
+    inr (x.0, fail-fault infos text x.1.told, ap (λ (d : Dev). d.mode) halts.change.2)
 
--- a device that refuses it
-later-rose : (k l m : ℕ) → k ≤ l → Rose l m → Rose k m
-later-rose k l m i r = omega (arith, r)
-
-lift-refused : (step : Step) (k l : ℕ) (text : List ℕ) (a c : Option Peer) → OnLink (λ w v. Refuses step text w.device v.device ⊎ Rose k l) a c → Refused step k l a c text
-lift-refused step k l text None None r = inl tt
-lift-refused step k l text None (Some c) r = absurd r
-lift-refused step k l text (Some (Apart dev)) c r = absurd r
-lift-refused step k l text (Some (Joined w)) None r = absurd r
-lift-refused step k l text (Some (Joined w)) (Some (Apart dev)) r = absurd r
-lift-refused step k l text (Some (Joined w)) (Some (Joined v)) r = r
-
-pub Refused-flash : (j k l spare : ℕ) → j ≤ k → (a b c : Option Peer) (name bytes line : List ℕ) → IsRawImage bytes → Downloaded spare bytes a b → Answered k l b c (Flash name) (Fail line) → Refused (put_step name bytes) j l a c line
-Refused-flash j k l spare i a b c name bytes line raw d x =
-    lift-refused (put_step name bytes) j l line a c
-    (on-then (IsDownloaded spare bytes) (Replies k l (Flash name) (Fail line)) (λ w v. Refuses (put_step name bytes) line w.device v.device ⊎ Rose j l)
-    (λ w u v y z. pick w.device u.device v.device y.device (flashed-fail k l name bytes line raw u v y.loaded z)) a b c d x)
+refused-hung : (step : Step) (text : List ℕ) (a b c : PortTold) → Drops b c → OnLink (λ w u. IsRefusing (Rose a.faults b.faults) step text w.device u.device) a.peer b.peer → Refused step a c text
+unfolding IsRefusing
+refused-hung step text a b c d r = pick a.peer b.peer c.peer refl d.left r
   where
-    pick : (s t r : Dev) → t ≡ s → Refuses (put_step name bytes) line t r ⊎ Rose k l → Refuses (put_step name bytes) line s r ⊎ Rose j l
-    pick s t r same (inl h) = inl (subst (λ q. Refuses (put_step name bytes) line q r) same h)
-    pick s t r same (inr h) = inr (later-rose j k l i h)
+    later : Rose a.faults b.faults → Rose a.faults c.faults
+    later h = omega (arith, h, d.kept.later)
 
-pub untold-flash : (k l spare : ℕ) (a b c : Option Peer) (name bytes : List ℕ) (reply : Reply) → IsOther reply → Downloaded spare bytes a b → Answered k l b c (Flash name) reply → a ≡ None
-untold-flash k l spare a b c name bytes reply n d x =
-    on-none (λ w u. ⊥) (λ w u z. z) a c
-    (on-then (IsDownloaded spare bytes) (Replies k l (Flash name) reply) (λ w u. ⊥) (λ w u v y z. flashed-other k l name reply n u v z) a b c d x)
+    pick : (x y z : Option Peer) → c.peer ≡ z → HungUp y z → OnLink (λ w u. IsRefusing (Rose a.faults b.faults) step text w.device u.device) x y → OnDevice (Refuses step text) x z ⊎ IsFaulted text a c
+    pick None None None s h r = inl tt
+    pick None None (Some z) s h r = absurd h
+    pick None (Some y) z s h r = absurd r
+    pick (Some (Apart dev)) y z s h r = absurd r
+    pick (Some (Joined w)) None z s h r = absurd r
+    pick (Some (Joined w)) (Some (Apart dev)) z s h r = absurd r
+    pick (Some (Joined w)) (Some (Joined u)) None s h r = absurd h
+    pick (Some (Joined w)) (Some (Joined u)) (Some (Joined v)) s h r = absurd h
+    pick (Some (Joined w)) (Some (Joined u)) (Some (Apart t)) s h (inl q) = inl (subst (λ x. Refuses step text w.device x) (sym h) q)
+    pick (Some (Joined w)) (Some (Joined u)) (Some (Apart t)) s h (inr q) = inr (record {
+      told = q.1;
+      rose = later q.0;
+      halted = subst HasHalted (sym s) (ap (λ (x : Dev). x.mode) h ∙ q.2);
+    })
 
--- a device told nothing before is told nothing behind
-pub none-before : (spare : ℕ) (image : List ℕ) (a b : Option Peer) → Downloaded spare image a b → b ≡ None → a ≡ None
-none-before spare image None b d e = refl
-none-before spare image (Some (Apart dev)) b d e = absurd d
-none-before spare image (Some (Joined w)) None d e = absurd d
-none-before spare image (Some (Joined w)) (Some b) d e = absurd (none-some b (sym e))
+pub Refused-flash : (name bytes text : List ℕ) (a b : Seen) (c : PortTold) → IsRawImage bytes → Fit 4104 a.port.peer → HasLoaded bytes a.port.peer → Concluded (Flash name) a b (Fail text) → Drops b.port c → Refused (put_step name bytes) a.port c text
+unfolding IsRefusing
+Refused-flash name bytes text a b c raw f l k d =
+    refused-hung (put_step name bytes) text a.port b.port c d
+    (with-on (λ w. IsFit 4104 w × (w.loaded ≡ Some bytes)) (IsAnswered (Rose a.port.faults b.port.faults) k.payload (k.infos ++ Fail text ∷ [])) (λ w u. IsRefusing (Rose a.port.faults b.port.faults) (put_step name bytes) text w.device u.device)
+    (refusing-so (Rose a.port.faults b.port.faults) name bytes text k.payload k.infos raw k.spelled) a.port.peer b.port.peer (fit-loaded bytes a.port.peer f l) k.told)
 
-pub ruleset flashes = (none-before, IsTaken-flash, Idle-downloaded, Valid-downloaded, Took-flash, Refused-flash, untold-flash)
+-- a flash behind its download
+flashed-both : (most : ℕ) (name bytes : List ℕ) (w u v : Wire) → IsDownloaded bytes w u → IsFlashed 4104 (put_step name bytes) u v → (8208 + 9 * length bytes ≡ most) → IsFlashed most (put_step name bytes) w v
+flashed-both most name bytes w u v d f e = record {
+  takes = subst (λ (s : Dev). Takes (put_step name bytes) s v.device) d.device f.takes;
+  still = record { running = f.still.running; quiet = f.still.quiet; commanding = f.still.commanding; rest = f.still.rest; took = omega (arith, d.still.took, f.still.took, e) };
+}
 
--- every port takes a reboot to the system
-pub IsTaken-reboot : (spare : ℕ) (a : Option Peer) → Idle spare a → IsTaken a (Reboot target.System)
-IsTaken-reboot spare a i = of-of (IsIdle spare) (λ w. IsTrue true) (λ w x. refl) a i
+pub Flashed-both : (name bytes : List ℕ) (a b c : Option Peer) → Downloaded bytes a b → Flashed 4104 (put_step name bytes) b c → Flashed (8208 + 9 * length bytes) (put_step name bytes) a c
+Flashed-both name bytes a b c d f =
+    on-then (IsDownloaded bytes) (IsFlashed 4104 (put_step name bytes)) (IsFlashed (8208 + 9 * length bytes) (put_step name bytes)) (λ w u v p q. flashed-both (8208 + 9 * length bytes) name bytes w u v p q refl) a b c d f
 
+refused-before : (step : Step) (bytes text : List ℕ) (a b c : PortTold) → Moves a b → Downloaded bytes a.peer b.peer → Refused step b c text → Refused step a c text
+refused-before step bytes text a b c m d (inr f) = inr (record { told = f.told; rose = omega (arith, m.kept.later, f.rose); halted = f.halted })
+refused-before step bytes text a b c m d (inl r) = inl (pick a.peer b.peer c.peer d r)
+  where
+    pick : (x y z : Option Peer) → Downloaded bytes x y → OnDevice (Refuses step text) y z → OnDevice (Refuses step text) x z
+    pick None None z d r = r
+    pick None (Some y) z d r = absurd d
+    pick (Some (Apart dev)) y z d r = absurd d
+    pick (Some (Joined w)) None z d r = absurd d
+    pick (Some (Joined w)) (Some (Apart dev)) z d r = absurd d
+    pick (Some (Joined w)) (Some (Joined u)) None d r = absurd r
+    pick (Some (Joined w)) (Some (Joined u)) (Some z) d r = subst (λ (s : Dev). Refuses step text s (device_of z)) d.device r
+
+pub Stopped-flash : (step : Step) (bytes : List ℕ) (a b c : PortTold) (e : AskFail) → Moves a b → Downloaded bytes a.peer b.peer → IsStopped (Refused step b c) b c e → IsStopped (Refused step a c) a c e
+Stopped-flash step bytes a b c e m d s = Stopped-within (Refused step b c) (Refused step a c) a b c (λ text r. refused-before step bytes text a b c m d r) m e s
+
+pub Stopped-download : (step : Step) (a b : PortTold) (e : AskFail) → IsStopped NeverRefuses a b e → IsStopped (Refused step a b) a b e
+Stopped-download step a b e s = Stopped-weaker NeverRefuses (Refused step a b) a b (λ text r. absurd r) e s
+
+-- A reboot.
 reboot-said : (dev : Dev) (loaded : Loaded) → says dev loaded (Reboot target.System) ≡ leaves System dev loaded
 unfolding says
 reboot-said dev loaded = refl
 
-rebooted : (k l : ℕ) (line : List ℕ) (w u : Wire) → Replies k l (Reboot target.System) (Okay line) w u → u.device ≡ apply (Boot System) w.device
-rebooted k l line w u (inl a) = a.device ∙ ap (λ (x : Said). x.device) (reboot-said w.device w.loaded)
-rebooted k l line w u (inr f) = absurd (let t : Okay line ≡ Fail (codes "disk fault") = f.1.told in cc)
+reboot-one : (p : List ℕ) (infos : List Reply) (end : Reply) (w u : Wire) → spelling (Reboot target.System) ≡ Some p → IsFit 4104 w → IsSaid p (infos ++ end ∷ []) w u → IsOneReply (leaves System w.device w.loaded) end (Okay []) p w u
+reboot-one p infos end w u e f x =
+    said-one (Reboot target.System) (leaves System w.device w.loaded) (Okay []) end p infos w u (command_again (Reboot target.System) p e) (reboot-said w.device w.loaded) refl tt f.between.quiet x
 
--- a device that was rebooted took the step
-pub Took-reboot : (k l : ℕ) (a b : Option Peer) (line : List ℕ) → Serves a → Answered k l a b (Reboot target.System) (Okay line) → Took (Boot System) a b
-Took-reboot k l a b line serves x =
-    on-device (λ w u. Takes (Boot System) w.device u.device) (Takes (Boot System)) (λ w u t. t) a b
-    (with-on (λ w. IsTrue (is_fastboot w.device.mode)) (Replies k l (Reboot target.System) (Okay line)) (λ w u. Takes (Boot System) w.device u.device)
-    (λ w u s r. record { can_so = boot-taken w.device s; taken = rebooted k l line w u r }) a b serves x)
-  where
-    boot-taken : (dev : Dev) → IsTrue (is_fastboot dev.mode) → can (Boot System) dev ≡ true
-    boot-taken dev s = ap (λ t. t && true && true) s
+boot-taken : (dev : Dev) → IsTrue (is_fastboot dev.mode) → can (Boot System) dev ≡ true
+boot-taken dev s = ap (λ t. t && true && true) s
 
-not-okay : (k l : ℕ) (reply : Reply) → IsOther reply → (w u : Wire) → Replies k l (Reboot target.System) reply w u → ⊥
-not-okay k l reply n w u (inl a) =
-    let r : Some (Okay []) ≡ Some reply = sym (ap (λ (x : Said). first_reply x.replies) (reboot-said w.device w.loaded)) ∙ a.first in
-    okay-other reply n r
-  where
-    okay-other : (reply : Reply) → IsOther reply → Some (Okay []) ≡ Some reply → ⊥
-    okay-other (Okay line) n e = n
-    okay-other (Fail line) n e = n
-    okay-other (Info line) n e = absurd cc
-    okay-other (Text line) n e = absurd cc
-    okay-other (Load c) n e = absurd cc
-not-okay k l reply n w u (inr f) = fault-other reply n f.1.told
+rebooted-so : (broke : Type 0) (line p : List ℕ) (infos : List Reply) → spelling (Reboot target.System) ≡ Some p → (w u : Wire) → IsFit 4104 w → IsAnswered broke p (infos ++ Okay line ∷ []) w u → Takes (Boot System) w.device u.device
+rebooted-so broke line p infos e w u f (inl x) = record { can_so = boot-taken w.device f.serves; taken = (reboot-one p infos (Okay line) w u e f x).device }
+rebooted-so broke line p infos e w u f (inr x) = absurd (okay-fault infos line x.1.told)
 
--- no device refuses a reboot, unless a disk call fails
-rose-reboot : (k l : ℕ) (line : List ℕ) (w u : Wire) → Replies k l (Reboot target.System) (Fail line) w u → Rose k l
-rose-reboot k l line w u (inl a) =
-    let r : Some (Okay []) ≡ Some (Fail line) = sym (ap (λ (x : Said). first_reply x.replies) (reboot-said w.device w.loaded)) ∙ a.first in absurd cc
-rose-reboot k l line w u (inr f) = f.0
+device-hung : (R : Dev → Dev → Type 0) (a b c : Option Peer) → OnLink (λ w u. R w.device u.device) a b → HungUp b c → OnDevice R a c
+device-hung R None None None r h = tt
+device-hung R None None (Some c) r h = h
+device-hung R None (Some b) c r h = absurd r
+device-hung R (Some (Apart dev)) b c r h = absurd r
+device-hung R (Some (Joined w)) None c r h = absurd r
+device-hung R (Some (Joined w)) (Some (Apart dev)) c r h = absurd r
+device-hung R (Some (Joined w)) (Some (Joined u)) None r h = h
+device-hung R (Some (Joined w)) (Some (Joined u)) (Some (Joined v)) r h = absurd h
+device-hung R (Some (Joined w)) (Some (Joined u)) (Some (Apart t)) r h = subst (λ x. R w.device x) (sym h) r
 
-pub Refused-reboot : (k l : ℕ) (a b : Option Peer) (line : List ℕ) → Answered k l a b (Reboot target.System) (Fail line) → Refused (Boot System) k l a b line
-Refused-reboot k l a b line x =
-    lift-refused (Boot System) k l line a b
-    (on-on (Replies k l (Reboot target.System) (Fail line)) (λ w u. Refuses (Boot System) line w.device u.device ⊎ Rose k l) (λ w u r. inr (rose-reboot k l line w u r)) a b x)
+pub Took-reboot : (line : List ℕ) (a b : Seen) (c : PortTold) → Fit 4104 a.port.peer → Concluded (Reboot target.System) a b (Okay line) → Drops b.port c → Took (Boot System) a.port.peer c.peer
+Took-reboot line a b c f k d =
+    device-hung (Takes (Boot System)) a.port.peer b.port.peer c.peer
+    (with-on (IsFit 4104) (IsAnswered (Rose a.port.faults b.port.faults) k.payload (k.infos ++ Okay line ∷ [])) (λ w u. Takes (Boot System) w.device u.device)
+    (rebooted-so (Rose a.port.faults b.port.faults) line k.payload k.infos k.spelled) a.port.peer b.port.peer f k.told) d.left
 
-pub untold-reboot : (k l : ℕ) (a b : Option Peer) (reply : Reply) → IsOther reply → Answered k l a b (Reboot target.System) reply → a ≡ None
-untold-reboot k l a b reply n x = on-none (Replies k l (Reboot target.System) reply) (not-okay k l reply n) a b x
+fail-okay : (text : List ℕ) → Fail text ≡ Okay [] → ⊥
+fail-okay text e = cc
 
-pub ruleset reboots = (IsTaken-reboot, Took-reboot, Refused-reboot, untold-reboot)
+stays-so : (broke : Type 0) (text p : List ℕ) (infos : List Reply) → spelling (Reboot target.System) ≡ Some p → (w u : Wire) → IsFit 4104 w → IsAnswered broke p (infos ++ Fail text ∷ []) w u → IsRefusing broke (Boot System) text w.device u.device
+unfolding IsRefusing
+stays-so broke text p infos e w u f (inl x) = absurd (fail-okay text (reboot-one p infos (Fail text) w u e f x).reply)
+stays-so broke text p infos e w u f (inr x) =
+    let halts = subst (λ c. Halts w.device w.loaded c u.device) (command_again (Reboot target.System) p e) x.1.halts in
+    inr (x.0, fail-fault infos text x.1.told, ap (λ (d : Dev). d.mode) halts.change)
+
+pub Refused-reboot : (text : List ℕ) (a b : Seen) (c : PortTold) → Fit 4104 a.port.peer → Concluded (Reboot target.System) a b (Fail text) → Drops b.port c → Refused (Boot System) a.port c text
+unfolding IsRefusing
+Refused-reboot text a b c f k d =
+    refused-hung (Boot System) text a.port b.port c d
+    (with-on (IsFit 4104) (IsAnswered (Rose a.port.faults b.port.faults) k.payload (k.infos ++ Fail text ∷ [])) (λ w u. IsRefusing (Rose a.port.faults b.port.faults) (Boot System) text w.device u.device)
+    (stays-so (Rose a.port.faults b.port.faults) text k.payload k.infos k.spelled) a.port.peer b.port.peer f k.told)
+
+pub ruleset writes = (Passes-flash, Flashed-okay, Refused-flash)
+
+pub ruleset reboots = (Took-reboot, Refused-reboot)
+
+pub ruleset flashes = (Loaded-downloaded, Flashed-both)

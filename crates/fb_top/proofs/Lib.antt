@@ -7,7 +7,6 @@ pub mod FlashLemmas
 pub mod SizeLemmas
 pub mod RunLemmas
 pub mod HostLemmas
-pub mod TargetLemmas
 pub mod PlainLists
 pub mod PlainSays
 pub mod PlainFlash
@@ -19,3 +18,4 @@ pub mod PlainLayouts
 pub mod PlainFiles
 pub mod PlainHeld
 pub mod RehearsalLemmas
+pub mod DownloadLemmas

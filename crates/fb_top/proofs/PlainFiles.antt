@@ -13,13 +13,15 @@ use Rattle.dev_model.specs.Validity.{IsValid}
 use Rattle.wire_model.specs.Halts.{Goes}
 use Rattle.wire_told.specs.Peers.{Apart, Joined, OfLink}
 use Rattle.wire_told.specs.Places as place
-use Rattle.wire_told.specs.Places.{Place, ImageAt, TcpAt, Stand, Device, Bad, Nothing, Aims, IsBad}
+use Rattle.wire_told.specs.Places.{Place, Stands, ImageAt, TcpAt, Stand, Device, Bad, Nothing, Aims, IsBad}
 use Rattle.wire_told.specs.Told.{MayConnect, Sent, GoesBy, IsLeft, LeftBy, Heard, HungUp, Connected}
 use Rattle.wire_model.specs.Wire.{Wire, fresh, after}
 use Rattle.wire_told.proofs.TellLemmas.{Sent-to}
 use Rattle.fb_top.specs.declared.plain_peer.PlainPeer.{PlainPeer}
+use Rattle.fb_top.specs.declared.plain_device.PlainDevice.{PlainDevice}
+use Rattle.fb_top.specs.PlainDevices.{dev_of}
 use Rattle.fb_top.specs.PlainDisks.{is_open_for}
-use Rattle.fb_top.specs.PlainPeers.{MayLead}
+use Rattle.fb_top.specs.PlainPeers.{MayLead, state_of, peer_of}
 use Rattle.fb_top.specs.PlainStand.{plain_stands, stand_in, stand_of, IsFileOf}
 
 -- what was read whole is the file
@@ -136,3 +138,9 @@ pub heard_if : (b c : Bool) (w v : Wire) (d e : Dev) (bytes : List ℕ) → b �
 heard_if true true w v d e bytes p q h = h
 heard_if true false w v d e bytes p q h = absurd cc
 heard_if false c w v d e bytes p q h = absurd cc
+
+-- a port that is aimed at a device apart
+pub aims_apart : (stands : Stands) (place : Place) (peer : PlainPeer) (device : PlainDevice) → peer.up ≡ false → peer.device ≡ device → Aims stands place (Some (Apart (dev_of device))) → Aims stands place (peer_of (Some peer))
+aims_apart stands place peer device down same a =
+    subst (λ b. Aims stands place (Some (if b then Joined (state_of peer) else Apart (dev_of peer.device)))) (sym down)
+    (subst (λ (d : PlainDevice). Aims stands place (Some (Apart (dev_of d)))) (sym same) a)

@@ -4,6 +4,7 @@ use Rattle.std.specs.Prelude.{option_map, bytes_eq, if◌then◌else◌, Result,
 use Rattle.std.proofs.lemmas.List.{take-take, drop-take, drop_all}
 use Rattle.std.proofs.lemmas.Slice.Eq.{bytes_eq-Decides}
 use Rattle.dev_disk.specs.Calls.{Agrees, IsFileOf, IsOpen}
+use Rattle.dev_disk.specs.Disks.{DiskTold, open_bytes, FilesKept}
 use Rattle.dev_disk.specs.Files.{Files, content, written, Wrote, IsInside}
 use Rattle.dev_model.specs.declared.device.Dev.{Dev}
 use Rattle.dev_model.specs.declared.device.Mode.{Mode}
@@ -204,3 +205,9 @@ holds files path size None a h = tt
 holds files None size (Some peer) a h = tt
 holds None (Some path) size (Some peer) a h = tt
 holds (Some f) (Some path) size (Some peer) a h = at_path f path size peer a h
+
+-- what was written stays as it was through a sync
+pub wrote_synced : (a b c : DiskTold) (at : ℕ) (bytes : List ℕ) → Wrote (open_bytes a) (open_bytes b) at bytes → FilesKept b c → Wrote (open_bytes a) (open_bytes c) at bytes
+wrote_synced a b c at bytes w k =
+    subst (λ f. Wrote (open_bytes a) (content f c.open_path) at bytes) (sym k.files)
+    (subst (λ p. Wrote (open_bytes a) (content b.files p) at bytes) (sym k.path) w)

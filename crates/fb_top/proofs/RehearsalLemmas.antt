@@ -1,6 +1,7 @@
 -- What fbflash leaves of told files, by what it leaves of the port over them.
 use Rattle.std.proofs.Common.{◌≡◌, ◌≢◌, ◌⊎◌, inl, inr, ℕ, Bool, true, false, List, [], ◌∷◌, length, Option, Some, None, Result, Ok, Err, refl, sym, ap, ◌∙◌, subst, arith}
-use Rattle.std.specs.Prelude.{if◌then◌else◌, ◌+◌, nat_eq, nat_lt, take, drop, bytes_eq}
+use Rattle.std.proofs.lemmas.Option.{none-some}
+use Rattle.std.specs.Prelude.{is_some, if◌then◌else◌, ◌+◌, nat_eq, nat_lt, take, drop, bytes_eq}
 use Rattle.std.proofs.lemmas.Slice.Eq.{bytes_eq-Decides}
 use Rattle.fb_frame.specs.Causes.{Rose}
 use Rattle.dev_disk.specs.Files as disk
@@ -14,13 +15,16 @@ use Rattle.dev_model.specs.Partitions.{has_slots, with_mode}
 use Rattle.dev_model.specs.Steps.{can, apply, run}
 use Rattle.flash_plan.specs.Files.{Files}
 use Rattle.wire_told.specs.Peers.{Peer, device_of}
-use Rattle.wire_told.specs.Places.{Place, ImageAt, Stand, Stands, Device, Bad, Nothing}
+use Rattle.wire_told.specs.Places.{Place, ImageAt, Stand, Stands, Device, Bad, Nothing, IsLast}
+use Rattle.wire_told.specs.Ports.{PortTold}
 use Rattle.fb_top.specs.declared.plan.PlanKind.TheVariants.{NotBuilt}
 use Rattle.fb_top.specs.HostWords.{FlashAllText}
-use Rattle.fb_top.specs.Asking.{IsCut}
+use Rattle.fb_top.specs.Outsides.{Output, scene}
+use Rattle.fb_top.specs.PlainPeers.{told_by, peer_of}
+use Rattle.fb_top.specs.declared.plain_peer.PlainPeer.{PlainPeer}
 use Rattle.fb_top.specs.declared.plain_layout.PlainLayout.{PlainLayout}
 use Rattle.dev_model.specs.declared.bad_image.BadImage.TheVariants.{ShortFile, BadLength}
-use Rattle.fb_top.specs.Installs.{installed_from, installed_on, IsDevice, Installs, IsAbsent, IsStillBy, IsStill}
+use Rattle.fb_top.specs.Installs.{installed_from, installed_on, IsDevice, Installs, IsAbsent, IsBlind, IsCutFor, IsStillBy, IsStill}
 use Rattle.fb_top.specs.Outcomes.{Outcome, outcome_of}
 use Rattle.fb_top.specs.PlainDevices.{plain_dev}
 use Rattle.fb_top.specs.PlainLayout.{layout_of}
@@ -33,6 +37,15 @@ use Rattle.fb_top.specs.Products.{ProductValue, Fault, product_of}
 use Rattle.fb_top.specs.Rehearsals.{IsStored, Rehearses, KeepsImages, KeepsAll}
 use Rattle.fb_top.specs.Runs.{run_plan}
 use Rattle.fb_top.specs.Targets.{IsTurned, KeepsBeside}
+
+-- the last target is that of words that are taken
+abbrev pub TurnedTo : Option FlashAllText → Stands → Option Place → Type 0
+TurnedTo None stands last = ⊥
+TurnedTo (Some words) stands last = IsLast stands last (ImageAt words.image)
+
+pub turned_to : (words : Option FlashAllText) (port : PortTold) → IsTurned words port → TurnedTo words port.stands port.last
+turned_to None port t = absurd t
+turned_to (Some words) port t = t.last
 
 -- A plan ends in a reboot.
 goes_on : (b : Bool) (next : Option Dev) (t : Dev) → (needs b >>= (λ _. next)) ≡ Some t → next ≡ Some t
@@ -89,7 +102,7 @@ stores words files old new last peer l d h =
     (subst (λ (o : Option Place). HoldsBy (stand_at (plain_stands (Some new)) o) peer) l h)
 
 by_words : (words : Option FlashAllText) (files : Option Files) (old new : Option disk.Files) (last : Option Place) (peer : Option Peer) →
-    Installs words files (plain_stands old) peer → IsTurned words (plain_stands new) last → KeepsBeside words (plain_stands old) (plain_stands new) → Holds (plain_stands new) last peer → Rehearses words files old new
+    Installs words files (plain_stands old) peer → TurnedTo words (plain_stands new) last → KeepsBeside words (plain_stands old) (plain_stands new) → Holds (plain_stands new) last peer → Rehearses words files old new
 by_words None files old new last peer i l k h = absurd i
 by_words (Some words) None old new last peer i l k h = tt
 by_words (Some words) (Some files) None new last peer i l k h = tt
@@ -98,10 +111,10 @@ by_words (Some words) (Some files) (Some old) None last peer i l k h =
 by_words (Some words) (Some files) (Some old) (Some new) last peer i l k h = stores words files old new last peer l i h
 
 pub rehearses : (words : Option FlashAllText) (files : Option Files) (old new : Option disk.Files) (before now : Stands) (last : Option Place) (peer : Option Peer) →
-    before ≡ plain_stands old → plain_stands new ≡ now → Installs words files before peer → IsTurned words now last → KeepsBeside words before now → Holds now last peer → Rehearses words files old new
+    before ≡ plain_stands old → plain_stands new ≡ now → Installs words files before peer → TurnedTo words now last → KeepsBeside words before now → Holds now last peer → Rehearses words files old new
 rehearses words files old new before now last peer b n i l k h =
     by_words words files old new last peer (subst (λ (s : Stands). Installs words files s peer) b i)
-    (subst (λ (s : Stands). IsTurned words s last) (sym n) l)
+    (subst (λ (s : Stands). TurnedTo words s last) (sym n) l)
     (subst (λ (s : Stands). KeepsBeside words (plain_stands old) s) (sym n) (subst (λ (s : Stands). KeepsBeside words s now) b k))
     (subst (λ (s : Stands). Holds s last peer) (sym n) h)
 
@@ -114,34 +127,43 @@ pub keeps_images : (words : Option FlashAllText) (old new : Option disk.Files) (
 keeps_images words old new before now b n k =
     beside words old new (subst (λ (s : Stands). KeepsBeside words (plain_stands old) s) (sym n) (subst (λ (s : Stands). KeepsBeside words s now) b k))
 
+-- a plain port that is aimed tells its device
+pub seeing : (peer : Option PlainPeer) → is_some peer ≡ true → peer_of peer ≡ None → ⊥
+seeing None a e = absurd cc
+seeing (Some peer) a e = none-some (told_by peer) (sym e)
+
 -- what cut the link to the port, by the disk's count
-pub cut_at : (words : Option FlashAllText) (before old : Stands) (f f' g g' k k' l l' : ℕ) → before ≡ old → f ≡ f' → g' ≡ g → k ≡ k' → l' ≡ l →
-    IsCut f g k l ⊎ IsAbsent words before → IsCut f' g' k' l' ⊎ IsAbsent words old
-cut_at words before old f f' g g' k k' l l' s x y z w (inl (inl c)) = inl (inl (omega (arith, c, x, y)))
-cut_at words before old f f' g g' k k' l l' s x y z w (inl (inr c)) = inl (inr (omega (arith, c, z, w)))
-cut_at words before old f f' g g' k k' l l' s x y z w (inr a) = inr (subst (λ (t : Stands). IsAbsent words t) s a)
+pub cut_at : (words : Option FlashAllText) (a b : PortTold) (peer : Option PlainPeer) (old : Stands) (f g : ℕ) → a.stands ≡ old → a.faults ≡ f → g ≡ b.faults → b.aimed ≡ is_some peer → b.peer ≡ peer_of peer →
+    IsCutFor words a b ⊎ IsAbsent words a.stands → Rose f g ⊎ IsAbsent words old
+cut_at words a b peer old f g s x y q p (inl (inl c)) = inl (omega (arith, c, x, y))
+cut_at words a b peer old f g s x y q p (inl (inr c)) = absurd (seeing peer (sym q ∙ c.blind.aimed) (sym p ∙ c.blind.untold))
+cut_at words a b peer old f g s x y q p (inr h) = inr (subst (λ (t : Stands). IsAbsent words t) s h)
+
+pub never_blind : (b : PortTold) (peer : Option PlainPeer) → b.aimed ≡ is_some peer → b.peer ≡ peer_of peer → IsBlind b → ⊥
+never_blind b peer q p h = seeing peer (sym q ∙ h.aimed) (sym p ∙ h.untold)
 
 -- what the status reports, over the port and over its disk
-reports_cut : (o : Option Outcome) (status : ℕ) (before now : Option (List ℕ)) (Dir Unput : Type 0) (f f' g g' k k' l l' : ℕ) → f ≡ f' → g' ≡ g → k ≡ k' → l' ≡ l →
-    Reports o status before now Dir (IsCut f g k l) (Rose f g) Unput → Reports o status before now Dir (IsCut f' g' k' l') (Rose f' g') Unput
-reports_cut None status before now Dir Unput f f' g g' k k' l l' x y z w r = tt
-reports_cut (Some o) status before now Dir Unput f f' g g' k k' l l' x y z w (inl r) = inl r
-reports_cut (Some o) status before now Dir Unput f f' g g' k k' l l' x y z w (inr (inl r)) = inr (inl r)
-reports_cut (Some o) status before now Dir Unput f f' g g' k k' l l' x y z w (inr (inr (inl r))) = inr (inr (inl r))
-reports_cut (Some o) status before now Dir Unput f f' g g' k k' l l' x y z w (inr (inr (inr (inl (s, inl c))))) = inr (inr (inr (inl (s, inl (omega (arith, c, x, y))))))
-reports_cut (Some o) status before now Dir Unput f f' g g' k k' l l' x y z w (inr (inr (inr (inl (s, inr c))))) = inr (inr (inr (inl (s, inr (omega (arith, c, z, w))))))
-reports_cut (Some o) status before now Dir Unput f f' g g' k k' l l' x y z w (inr (inr (inr (inr (inl r))))) = inr (inr (inr (inr (inl (r.0, later r.1)))))
-  where
-    later : Rose f g → Rose f' g'
-    later c = omega (arith, c, x, y)
-reports_cut (Some o) status before now Dir Unput f f' g g' k k' l l' x y z w (inr (inr (inr (inr (inr r))))) = inr (inr (inr (inr (inr r))))
+reports_cut : (o : Option Outcome) (status : ℕ) (H : Type 0) (x y : ℕ) (t u : Output) (f f' g g' : ℕ) → f ≡ f' → g' ≡ g → Reports o status H (scene x f t) (scene y g u) → Reports o status (Unit {0}) (scene x f' t) (scene y g' u)
+reports_cut None status H x y t u f f' g g' p q r = tt
+reports_cut (Some o) status H x y t u f f' g g' p q (inl r) = inl r
+reports_cut (Some o) status H x y t u f f' g g' p q (inr (inl r)) = inr (inl r)
+reports_cut (Some o) status H x y t u f f' g g' p q (inr (inr (inl r))) = inr (inr (inl r))
+reports_cut (Some o) status H x y t u f f' g g' p q (inr (inr (inr (inl (s, c))))) = inr (inr (inr (inl (s, omega (arith, c, p, q)))))
+reports_cut (Some o) status H x y t u f f' g g' p q (inr (inr (inr (inr (inl (s, c)))))) = inr (inr (inr (inr (inl (s, record { rose = omega (arith, c.rose, p, q); halted = tt; line = c.line })))))
+reports_cut (Some o) status H x y t u f f' g g' p q (inr (inr (inr (inr (inr r))))) = inr (inr (inr (inr (inr r))))
 
-pub reports_at : (words : Option FlashAllText) (path : Option (List ℕ)) (files : Option Files) (before old : Stands) (f f' g g' k k' l l' : ℕ) (status : ℕ) (text now : Option (List ℕ)) (Dir Unput : Type 0) →
-    before ≡ old → f ≡ f' → g' ≡ g → k ≡ k' → l' ≡ l →
-    Reports (outcome_of words path files before) status text now Dir (IsCut f g k l) (Rose f g) Unput → Reports (outcome_of words path files old) status text now Dir (IsCut f' g' k' l') (Rose f' g') Unput
-reports_at words path files before old f f' g g' k k' l l' status text now Dir Unput s x y z w r =
-    reports_cut (outcome_of words path files old) status text now Dir Unput f f' g g' k k' l l' x y z w
-    (subst (λ (t : Stands). Reports (outcome_of words path files t) status text now Dir (IsCut f g k l) (Rose f g) Unput) s r)
+pub reports_at : (words : Option FlashAllText) (path : Option (List ℕ)) (files : Option Files) (before old : Stands) (status : ℕ) (H : Type 0) (x y : ℕ) (t u : Output) (f f' g g' : ℕ) → before ≡ old → f ≡ f' → g' ≡ g →
+    Reports (outcome_of words path files before) status H (scene x f t) (scene y g u) → Reports (outcome_of words path files old) status (Unit {0}) (scene x f' t) (scene y g' u)
+reports_at words path files before old status H x y t u f f' g g' s p q r =
+    reports_cut (outcome_of words path files old) status H x y t u f f' g g' p q
+    (subst (λ (z : Stands). Reports (outcome_of words path files z) status H (scene x f t) (scene y g u)) s r)
+
+-- where nothing was turned, and where no device stands
+pub untouched_by : (status : ℕ) (was is : Stands) → ((status ≡ 1) ⊎ ((status ≡ 3) ⊎ (status ≡ 4)) → is ≡ was) → (status ≡ 11 → Unit {0} → is ≡ was) → (status ≡ 1) ⊎ ((status ≡ 3) ⊎ ((status ≡ 4) ⊎ (status ≡ 11))) → is ≡ was
+untouched_by status was is f g (inl n) = f (inl n)
+untouched_by status was is f g (inr (inl n)) = f (inr (inl n))
+untouched_by status was is f g (inr (inr (inl n))) = f (inr (inr n))
+untouched_by status was is f g (inr (inr (inr n))) = g n tt
 
 -- all images stand for what they stood for
 pub keeps_all : (old new : Option disk.Files) (before now : Stands) → before ≡ plain_stands old → plain_stands new ≡ now → now ≡ before → KeepsAll old new
@@ -188,7 +210,7 @@ still_stored file stand (Some b) s h =
     let mode = opens_in file (device_of b) s in
     h (opened_runs (device_of b).mode mode) ∙ (ap Device (with_same (device_of b) Bootloader mode) ∙ sym s)
 
-still_there : (words : FlashAllText) (old new : Option disk.Files) (last : Option Place) (peer : Option Peer) → IsStill (Some words) (plain_stands old) peer → IsTurned (Some words) (plain_stands new) last →
+still_there : (words : FlashAllText) (old new : Option disk.Files) (last : Option Place) (peer : Option Peer) → IsStill (Some words) (plain_stands old) peer → TurnedTo (Some words) (plain_stands new) last →
     KeepsBeside (Some words) (plain_stands old) (plain_stands new) → Holds (plain_stands new) last peer → plain_stands new (ImageAt words.image) ≡ plain_stands old (ImageAt words.image)
 still_there words None None last peer s l k h = refl
 still_there words None (Some new) last peer s l k h = let gone = k (ImageAt (0 ∷ words.image)) (other_path words.image) in absurd cc
@@ -206,20 +228,20 @@ still_all words old new e k = λ path. pick path (bytes_eq path words.image) ref
     pick path true h = same path ((bytes_eq-Decides path words.image).0 h)
     pick path false h = k (ImageAt path) (λ q. let there : words.image ≡ path = cc in let yes : bytes_eq path words.image ≡ true = (bytes_eq-Decides path words.image).1 (sym there) in let n : false ≡ true = sym h ∙ yes in absurd cc)
 
-still_words : (words : Option FlashAllText) (old new : Option disk.Files) (last : Option Place) (peer : Option Peer) → IsStill words (plain_stands old) peer → IsTurned words (plain_stands new) last →
+still_words : (words : Option FlashAllText) (old new : Option disk.Files) (last : Option Place) (peer : Option Peer) → IsStill words (plain_stands old) peer → TurnedTo words (plain_stands new) last →
     KeepsBeside words (plain_stands old) (plain_stands new) → Holds (plain_stands new) last peer → KeepsAll old new
 still_words None old new last peer s l k h = absurd s
 still_words (Some words) old new last peer s l k h = still_all words old new (still_there words old new last peer s l k h) k
 
 pub keeps_still : (words : Option FlashAllText) (old new : Option disk.Files) (before now : Stands) (last : Option Place) (peer : Option Peer) →
-    before ≡ plain_stands old → plain_stands new ≡ now → IsStill words before peer → IsTurned words now last → KeepsBeside words before now → Holds now last peer → KeepsAll old new
+    before ≡ plain_stands old → plain_stands new ≡ now → IsStill words before peer → TurnedTo words now last → KeepsBeside words before now → Holds now last peer → KeepsAll old new
 keeps_still words old new before now last peer b n s l k h =
     still_words words old new last peer (subst (λ (t : Stands). IsStill words t peer) b s)
-    (subst (λ (t : Stands). IsTurned words t last) (sym n) l)
+    (subst (λ (t : Stands). TurnedTo words t last) (sym n) l)
     (subst (λ (t : Stands). KeepsBeside words (plain_stands old) t) (sym n) (subst (λ (t : Stands). KeepsBeside words t now) b k))
     (subst (λ (t : Stands). Holds t last peer) (sym n) h)
 
-pub keeps_or : (words : Option FlashAllText) (old new : Option disk.Files) (before now : Stands) (last : Option Place) (peer : Option Peer) (f f' g g' : ℕ) →
-    before ≡ plain_stands old → plain_stands new ≡ now → f ≡ f' → g' ≡ g → IsStill words before peer ⊎ Rose f g → IsTurned words now last → KeepsBeside words before now → Holds now last peer → KeepsAll old new ⊎ Rose f' g'
-keeps_or words old new before now last peer f f' g g' b n x y (inl s) l k h = inl (keeps_still words old new before now last peer b n s l k h)
-keeps_or words old new before now last peer f f' g g' b n x y (inr c) l k h = inr (omega (arith, c, x, y))
+pub keeps_or : (words : Option FlashAllText) (old new : Option disk.Files) (before now : Stands) (last : Option Place) (peer : Option Peer) (f f' g g' : ℕ) (H : Type 0) →
+    before ≡ plain_stands old → plain_stands new ≡ now → f ≡ f' → g' ≡ g → IsStill words before peer ⊎ (Rose f g × H) → TurnedTo words now last → KeepsBeside words before now → Holds now last peer → KeepsAll old new ⊎ Rose f' g'
+keeps_or words old new before now last peer f f' g g' H b n x y (inl s) l k h = inl (keeps_still words old new before now last peer b n s l k h)
+keeps_or words old new before now last peer f f' g g' H b n x y (inr c) l k h = inr (let r = c.0 in omega (arith, r, x, y))

@@ -1,29 +1,49 @@
 -- What the host does to a told device: a download, a flash and a reboot.
-use Rattle.std.specs.Prelude.{◌≡◌, ◌⊎◌, ℕ, true, List, map, Option, Some, None, IsTrue}
+use Rattle.std.specs.Prelude.{◌≡◌, ◌⊎◌, ℕ, ◌+◌, ◌*◌, ◌≤◌, true, false, List, [], map, length, Option, Some, None, codes}
 use Rattle.fb_frame.specs.Causes.{Rose}
+use Rattle.fb_frame.specs.Framing.{frame}
 use Rattle.dev_model.specs.declared.cells.Cell.TheVariants.{Byte}
 use Rattle.dev_model.specs.declared.device.Dev.{Dev}
+use Rattle.dev_model.specs.declared.device.Mode.TheVariants.{Halted}
 use Rattle.dev_model.specs.declared.step.Step.{Step}
 use Rattle.dev_model.specs.declared.step.Step.TheVariants.{Put}
-use Rattle.dev_model.specs.Partitions.{is_fastboot}
 use Rattle.dev_model.specs.Refusals.{refusal_of}
 use Rattle.dev_model.specs.Steps.{can, apply}
 use Rattle.wire_told.specs.Peers.{Peer, device_of, OfLink, OnLink}
-use Rattle.wire_told.specs.Told.{IsIdle}
-use Rattle.wire_model.specs.Wire.{Wire}
+use Rattle.wire_told.specs.Ports.{PortTold}
+use Rattle.wire_told.specs.Told.{IsReceiving}
+use Rattle.wire_model.specs.Wire.{Wire, Command}
+use Rattle.fb_top.specs.Asking.{IsOpenStill}
 
--- the told device answers fastboot commands
-abbrev pub Serves : Option Peer → Type 0
-Serves a = OfLink (λ w. IsTrue (is_fastboot w.device.mode)) a
+-- the data of a download is awaited: so many bytes, of which none came
+abbrev pub Downloads : ℕ → Option Peer → Type 0
+Downloads count a = OfLink (IsReceiving 0 count []) a
+
+-- All of the data was taken and is loaded, the device is as it was, and OKAY is left to hear.
+pub record IsSent (image : List ℕ) (w v : Wire) : Type 0 where
+  pub device : v.device ≡ w.device
+  pub loaded : v.loaded ≡ Some image
+  pub okay : v.out ≡ frame (codes "OKAY")
+  pub commanding : v.phase ≡ Command
+  pub rest : v.rest ≡ []
+  pub running : v.closed ≡ false
+  pub took : v.taken ≤ w.taken + 9 * length image
+
+abbrev pub Sent : List ℕ → Option Peer → Option Peer → Type 0
+Sent image a b = OnLink (IsSent image) a b
 
 -- The image is loaded, the device is as it was, and the next command is awaited.
-pub record IsDownloaded (spare : ℕ) (image : List ℕ) (w u : Wire) : Type 0 where
+pub record IsDownloaded (image : List ℕ) (w u : Wire) : Type 0 where
   pub device : u.device ≡ w.device
   pub loaded : u.loaded ≡ Some image
-  pub idle : IsIdle spare u
+  pub still : IsOpenStill (4104 + 9 * length image) w u
 
-abbrev pub Downloaded : ℕ → List ℕ → Option Peer → Option Peer → Type 0
-Downloaded spare image a b = OnLink (IsDownloaded spare image) a b
+abbrev pub Downloaded : List ℕ → Option Peer → Option Peer → Type 0
+Downloaded image a b = OnLink (IsDownloaded image) a b
+
+-- the image is loaded
+abbrev pub HasLoaded : List ℕ → Option Peer → Type 0
+HasLoaded image a = OfLink (λ w. w.loaded ≡ Some image) a
 
 -- The device could take the step, and took it.
 pub record Takes (step : Step) (s t : Dev) : Type 0 where
@@ -52,10 +72,29 @@ OnTold R (Some a) (Some b) = R (device_of a) (device_of b)
 abbrev pub put_step : List ℕ → List ℕ → Step
 put_step name image = Put name (map Byte image)
 
+-- The device took the step, and the next command is awaited.
+pub record IsFlashed (most : ℕ) (step : Step) (w u : Wire) : Type 0 where
+  pub takes : Takes step w.device u.device
+  pub still : IsOpenStill most w u
+
+abbrev pub Flashed : ℕ → Step → Option Peer → Option Peer → Type 0
+Flashed most step a b = OnLink (IsFlashed most step) a b
+
 -- the told device took the step
 abbrev pub Took : Step → Option Peer → Option Peer → Type 0
 Took step a b = OnDevice (Takes step) a b
 
+-- a told device that halted
+abbrev pub HasHalted : Option Peer → Type 0
+HasHalted None = ⊥
+HasHalted (Some b) = (device_of b).mode ≡ Halted
+
+-- A disk call of the device failed, which the device tells by this text, and it halted.
+pub record IsFaulted (text : List ℕ) (old new : PortTold) : Type 0 where
+  pub told : text ≡ codes "disk fault"
+  pub rose : Rose old.faults new.faults
+  pub halted : HasHalted new.peer
+
 -- the told device refuses the step with this text, or a disk call failed
-abbrev pub Refused : Step → ℕ → ℕ → Option Peer → Option Peer → List ℕ → Type 0
-Refused step before now a b text = OnDevice (Refuses step text) a b ⊎ Rose before now
+abbrev pub Refused : Step → PortTold → PortTold → List ℕ → Type 0
+Refused step old new text = OnDevice (Refuses step text) old.peer new.peer ⊎ IsFaulted text old new

@@ -4,13 +4,15 @@ pub mod Asking
 pub mod Plans
 pub mod Questions
 pub mod Flashing
+pub mod StepLines
 pub mod Outcomes
+pub mod Outsides
 pub mod Printed
 pub mod Reports
 pub mod Runs
 pub mod SizeText
-pub mod Installs
 pub mod Targets
+pub mod Installs
 pub mod PlainLayout
 pub mod PlainState
 pub mod PlainFronts

@@ -1,12 +1,10 @@
 -- What an installation comes to in which nothing of the outside fails, by the words, the directory and what the
 -- words' target stands for.
 use Rattle.std.specs.Prelude.{◌≡◌, ℕ, Bool, false, not, List, [], ◌∷◌, Option, Some, None, Result, Ok, Err, if◌then◌else◌, bytes_eq}
-use Rattle.std.specs.Option.{option_or}
 use Rattle.dev_model.specs.declared.bad_image.BadImage.{BadImage}
 use Rattle.dev_model.specs.declared.device.Dev.{Dev}
 use Rattle.dev_model.specs.declared.step.Step.{Step}
-use Rattle.dev_model.specs.Refusals.{refusal_of}
-use Rattle.dev_model.specs.Steps.{apply}
+use Rattle.dev_model.specs.Steps.{first_refusal}
 use Rattle.flash_plan.specs.Files.{Files}
 use Rattle.wire_told.specs.Places.{ImageAt, Stand, Stands, Device, Bad, Nothing}
 use Rattle.fb_top.specs.declared.plan.PlanKind.{PlanKind}
@@ -36,11 +34,6 @@ status_of_outcome (NoDevice kind) = 11
 status_of_outcome (NoPlan line kind) = 10
 status_of_outcome (Refusing text) = 7
 status_of_outcome (Done product) = 0
-
--- the text of the first refusal as a device takes one step after another, None where it takes them all
-abbrev pub first_refusal : List Step → Dev → Option (List ℕ)
-first_refusal [] dev = None
-first_refusal (step ∷ steps) dev = option_or (refusal_of step dev) (first_refusal steps (apply step dev))
 
 -- the steps were taken, or one was refused
 abbrev pub taken_outcome : ProductValue → Option (List ℕ) → Outcome

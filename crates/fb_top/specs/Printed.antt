@@ -1,5 +1,6 @@
 -- The lines that fbflash prints.
 use Rattle.std.specs.Prelude.{ℕ, ◌&&◌, List, [], ◌∷◌, ◌++◌, length, map, take, nat_le, if◌then◌else◌, codes, decimal}
+use Rattle.fb_frame.specs.Shown.{shown}
 use Rattle.hex.specs.Hex.{encode_lower}
 use Rattle.dev_model.specs.declared.bad_image.BadImage.{BadImage}
 use Rattle.dev_model.specs.declared.bad_image.BadImage.TheVariants.{ShortFile, BadLayout, BadLength, BadState, NoGeometry, NoTable, BadUnits}
@@ -13,15 +14,8 @@ use Rattle.fb_top.specs.declared.product.ProductError.{ProductError}
 use Rattle.fb_top.specs.declared.product.ProductError.TheVariants as flawed
 use Rattle.fb_top.specs.declared.run.RunError.{RunError}
 use Rattle.fb_top.specs.declared.run.RunError.TheVariants as stop
+use Rattle.fb_top.specs.StepLines.{step_lines}
 use Rattle.fb_top.specs.Outcomes.{Outcome, Usage, Elsewhere, Flawed, Aimless, NoDevice, NoPlan, Refusing, Done}
-
--- a byte of a text of the outside, as `?` where it isn't printed ASCII
-abbrev pub shown_byte : ℕ → ℕ
-shown_byte b = if nat_le 32 b && nat_le b 126 then b else 63
-
--- a text of the outside as it is printed
-abbrev pub shown : List ℕ → List ℕ
-shown text = map shown_byte text
 
 -- the line of an error
 abbrev pub error_line : List ℕ → List ℕ
@@ -64,16 +58,7 @@ device_text kind = codes "device " ++ image_text kind
 abbrev pub peer_text : List ℕ → List ℕ
 peer_text kept = codes "peer " ++ encode_lower (take 32 kept)
 
--- the lines of the steps that were acknowledged
-abbrev pub flash_line : List ℕ → ℕ → List ℕ
-flash_line name size = codes "flash " ++ name ++ codes " " ++ decimal size ++ 10 ∷ []
-
-abbrev pub reboot_line : List ℕ
-reboot_line = codes "reboot system" ++ 10 ∷ []
-
-abbrev pub step_lines : List ℕ → ℕ → List ℕ
-step_lines name size = flash_line name size ++ reboot_line
-
+-- the last line of an installation that succeeded
 abbrev pub done_line : List ℕ
 done_line = codes "done 2" ++ 10 ∷ []
 

@@ -4,6 +4,7 @@ use Rattle.dev_model.specs.declared.device.Dev.{Dev}
 use Rattle.dev_model.specs.Partitions.{has_slots}
 use Rattle.wire_told.specs.Peers.{Peer, OnLink}
 use Rattle.wire_model.specs.Wire.{Wire}
+use Rattle.fb_top.specs.Asking.{IsOpenStill}
 use Rattle.fb_top.specs.Plans.{kind_of}
 
 -- whether there are slots, by the text of slot-count; None of a text that no device tells
@@ -24,6 +25,7 @@ kind_question name = codes "is-logical:" ++ name
 pub record Learns {X : Type 0} (fact : Dev → X) (x : X) (w u : Wire) : Type 0 where
   pub device : u.device ≡ w.device
   pub learns : x ≡ fact w.device
+  pub still : IsOpenStill 4104 w u
 
 -- whether the told device has slots
 abbrev pub LearnsSlots : Option Peer → Option Peer → Bool → Type 0

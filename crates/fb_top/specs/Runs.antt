@@ -1,23 +1,24 @@
 -- A whole installation over a told device.
-use Rattle.std.specs.Prelude.{◌≡◌, ◌⊎◌, ℕ, List, [], ◌∷◌, map, Option, Some, None, Result, Ok, Err}
-use Rattle.fb_frame.specs.Causes.{Rose}
+use Rattle.std.specs.Prelude.{◌≡◌, ◌⊎◌, ℕ, ◌++◌, List, [], ◌∷◌, map, Option, Some, None, Result, Ok, Err, codes}
+use Rattle.fb_frame.specs.Sinks.{Grew}
 use Rattle.dev_model.specs.declared.cells.Cell.TheVariants.{Byte}
 use Rattle.dev_model.specs.declared.device.Dev.{Dev}
 use Rattle.dev_model.specs.declared.step.Step.{Step}
 use Rattle.dev_model.specs.declared.step.Step.TheVariants.{Put, Boot}
 use Rattle.dev_model.specs.declared.device.Mode.TheVariants.{System}
-use Rattle.dev_model.specs.Steps.{run}
+use Rattle.dev_model.specs.Steps.{run, first_refusal}
 use Rattle.dev_model.specs.Validity.{IsValid}
-use Rattle.wire_told.specs.Peers.{Peer, Apart, Joined}
+use Rattle.wire_told.specs.Peers.{Peer, Apart, Joined, OfLink, OnLink}
 use Rattle.wire_told.specs.Told.{MayConnect}
+use Rattle.wire_model.specs.Wire.{Wire}
+use Rattle.fb_link.specs.Seen.{Seen}
 use Rattle.fb_top.specs.declared.asking.AskFail.{AskFail}
 use Rattle.fb_top.specs.declared.asking.AskFail.TheVariants as ask
-use Rattle.fb_top.specs.declared.plan.PlanKind.{PlanKind}
 use Rattle.fb_top.specs.declared.product.Product.{Product}
 use Rattle.fb_top.specs.declared.run.RunError.{RunError}
 use Rattle.fb_top.specs.declared.run.RunError.TheVariants.{Memory, Output, Link, Refused, Unknown, Plan}
-use Rattle.fb_top.specs.Flashing.{OnDevice, OnTold}
-use Rattle.fb_top.specs.Outcomes.{first_refusal}
+use Rattle.fb_top.specs.Asking.{IsOpenStill, IsCut}
+use Rattle.fb_top.specs.Flashing.{OnDevice, OnTold, IsFaulted}
 use Rattle.fb_top.specs.Plans.{PlanFault, plan_of}
 use Rattle.fb_top.specs.Products.{ProductValue}
 
@@ -48,53 +49,25 @@ pub record Plans (product : ProductValue) (plan : Result (List Step) PlanFault) 
 abbrev pub Planned : ProductValue → Result (List Step) PlanFault → Option Peer → Option Peer → Type 0
 Planned product plan a b = OnDevice (Plans product plan) a b
 
--- the product is installed on the device
-abbrev pub Installed : ProductValue → Option Peer → Option Peer → Type 0
-Installed product a b = OnDevice (λ s t. installed product s ≡ Some t) a b
+-- The device is as it was, the plan over it is this one, and the next command is awaited.
+pub record IsDecided (product : ProductValue) (plan : Result (List Step) PlanFault) (w u : Wire) : Type 0 where
+  pub plans : Plans product plan w.device u.device
+  pub still : IsOpenStill 12312 w u
 
--- Why an installation stops.
-abbrev pub WhyRun : (List ℕ → Type 0) → (ℕ → PlanKind → Type 0) → Type 0 → Type 0 → Option Peer → RunError → Type 0
-WhyRun Refuses Plans Cut Unput a Memory = Unit {0}
-WhyRun Refuses Plans Cut Unput a Output = Unput
-WhyRun Refuses Plans Cut Unput a Link = Cut
-WhyRun Refuses Plans Cut Unput a (Refused text) = Refuses text
-WhyRun Refuses Plans Cut Unput a (Unknown kept) = a ≡ None
-WhyRun Refuses Plans Cut Unput a (Plan line kind) = Plans line kind
-
--- the error of an installation that an answer to a command makes
-abbrev pub run_error : AskFail → RunError
-run_error ask.Link = Link
-run_error (ask.Refused text) = Refused text
-run_error (ask.Unknown kept) = Unknown kept
+abbrev pub Decided : ProductValue → Result (List Step) PlanFault → Option Peer → Option Peer → Type 0
+Decided product plan a b = OnLink (IsDecided product plan) a b
 
 -- the steps of a product that is planned
 abbrev pub two_steps : ProductValue → List Step
 two_steps product = Put product.name product.image ∷ Boot System ∷ []
 
--- the device took these steps, one after another
-abbrev pub Ran : List Step → Option Peer → Option Peer → Type 0
-Ran steps a b = OnDevice (λ s t. run steps s ≡ Some t) a b
+-- the plan over the told device is these two steps
+abbrev pub PlansBoth : ProductValue → Option Peer → Type 0
+PlansBoth product a = OfLink (λ w. plan_of product w.device ≡ Ok (two_steps product)) a
 
--- The device refuses one of these steps with this text, and is as it was.
-pub record Sticks (steps : List Step) (text : List ℕ) (s t : Dev) : Type 0 where
-  pub stuck : first_refusal steps s ≡ Some text
-  pub same : t ≡ s
-
--- the device refuses the first step, or a disk call failed
-abbrev pub Stuck : List Step → ℕ → ℕ → Option Peer → Option Peer → List ℕ → Type 0
-Stuck steps before now a b text = OnDevice (Sticks steps text) a b ⊎ Rose before now
-
--- the device is as it was
-abbrev pub SameDevice : Option Peer → Option Peer → Type 0
-SameDevice a b = OnDevice (λ s t. t ≡ s) a b
-
--- no plan fails
-abbrev pub NoPlan : ℕ → PlanKind → Type 0
-NoPlan line kind = ⊥
-
--- the plan of the product over the told device is this error
-abbrev pub Unplanned : ProductValue → Option Peer → Option Peer → ℕ → PlanKind → Type 0
-Unplanned product a b line kind = Planned product (Err (line, kind)) a b
+-- the product is installed on the device
+abbrev pub Installed : ProductValue → Option Peer → Option Peer → Type 0
+Installed product a b = OnDevice (λ s t. installed product s ≡ Some t) a b
 
 -- The plan over the device is made, the device refuses a step of it with this text, and is as it was.
 pub record Unruns (product : ProductValue) (text : List ℕ) (s t : Dev) : Type 0 where
@@ -102,21 +75,37 @@ pub record Unruns (product : ProductValue) (text : List ℕ) (s t : Dev) : Type 
   pub stuck : first_refusal (two_steps product) s ≡ Some text
   pub same : t ≡ s
 
--- the told device refuses a step of the product's plan, or a disk call failed
-abbrev pub Unrun : ProductValue → ℕ → ℕ → Option Peer → Option Peer → List ℕ → Type 0
-Unrun product before now a b text = OnTold (Unruns product text) a b ⊎ Rose before now
+-- The told device refuses a step of the product's plan with this text, and nothing was printed.
+pub record IsRefusedRun (product : ProductValue) (text : List ℕ) (old new : Seen) : Type 0 where
+  pub unruns : OnTold (Unruns product text) old.port.peer new.port.peer
+  pub quiet : (new.text ≡ old.text) ⊎ (old.port.peer ≡ None)
 
--- a line wasn't said: for want of memory, or where the count of the output's faults rose
-abbrev pub IsUnsaid : ℕ → ℕ → RunError → Type 0
-IsUnsaid before now Memory = Unit {0}
-IsUnsaid before now Output = Rose before now
-IsUnsaid before now _ = ⊥
+-- the text grew by something
+pub record GrewSome (old new : Option (List ℕ)) : Type 0 where
+  pub line : List ℕ
+  pub grew : Grew old new line
 
--- What was printed as an attempt stopped: nothing where no plan was made or the first step was refused.
-abbrev pub Quiet : Option (List ℕ) → Option (List ℕ) → Type 0 → Type 0 → RunError → Type 0
-Quiet before now Faulty Untold Memory = Unit {0}
-Quiet before now Faulty Untold Output = Unit {0}
-Quiet before now Faulty Untold Link = Unit {0}
-Quiet before now Faulty Untold (Refused text) = (now ≡ before) ⊎ (Faulty ⊎ Untold)
-Quiet before now Faulty Untold (Unknown kept) = Unit {0}
-Quiet before now Faulty Untold (Plan line kind) = now ≡ before
+-- A disk call of the device failed, which the device tells by this text, and it halted.
+pub record IsFaultedRun (text : List ℕ) (old new : Seen) : Type 0 where
+  pub faulted : IsFaulted text old.port new.port
+  pub grew : GrewSome old.text new.text
+
+-- Why an installation stops, and what it printed: nothing where no plan was made or the first step was refused.
+abbrev pub StopsRun : ProductValue → Seen → Seen → RunError → Type 0
+StopsRun product old new Memory = Unit {0}
+StopsRun product old new Output = Unit {0}
+StopsRun product old new Link = IsCut old.port new.port
+StopsRun product old new (Refused text) = IsRefusedRun product text old new ⊎ IsFaultedRun text old new
+StopsRun product old new (Unknown kept) = old.port.peer ≡ None
+StopsRun product old new (Plan line kind) =
+    Planned product (Err (line, kind)) old.port.peer new.port.peer × (new.text ≡ old.text)
+
+-- the error of an installation that an answer to a command makes
+abbrev pub run_error : AskFail → RunError
+run_error ask.Link = Link
+run_error (ask.Refused text) = Refused text
+run_error (ask.Unknown kept) = Unknown kept
+
+-- the device is as it was
+abbrev pub SameDevice : Option Peer → Option Peer → Type 0
+SameDevice a b = OnDevice (λ s t. t ≡ s) a b

@@ -1,21 +1,20 @@
 -- The target of fbflash's words among the places of a port.
-use Rattle.std.specs.Prelude.{◌≡◌, Option, Some, None}
+use Rattle.std.specs.Prelude.{◌≡◌, Option, Some, None, IsTrue}
 use Rattle.wire_told.specs.Places.{Place, ImageAt, Stands, IsLast, KeepsOthers}
-use Rattle.fb_top.specs.declared.host.HostError.{HostError}
-use Rattle.fb_top.specs.declared.host.HostError.TheVariants as host
+use Rattle.wire_told.specs.Ports.{PortTold}
 use Rattle.fb_top.specs.HostWords.{FlashAllText}
 
--- the last target is that of words that are taken
-abbrev pub IsTurned : Option FlashAllText → Stands → Option Place → Type 0
-IsTurned None stands last = ⊥
-IsTurned (Some words) stands last = IsLast stands last (ImageAt words.image)
+-- The port is aimed at the image of the words.
+pub record IsAt (words : FlashAllText) (port : PortTold) : Type 0 where
+  pub aimed : IsTrue port.aimed
+  pub last : IsLast port.stands port.last (ImageAt words.image)
+
+-- the same of words that may be refused
+abbrev pub IsTurned : Option FlashAllText → PortTold → Type 0
+IsTurned None port = ⊥
+IsTurned (Some words) port = IsAt words port
 
 -- no target but the words' stands for anything else than it did
 abbrev pub KeepsBeside : Option FlashAllText → Stands → Stands → Type 0
 KeepsBeside None stands now = now ≡ stands
 KeepsBeside (Some words) stands now = KeepsOthers (Some (ImageAt words.image)) stands now
-
--- where the port was aimed before an attempt stopped, the last target is this one
-abbrev pub TurnedBy : Stands → Option Place → Place → HostError → Type 0
-TurnedBy stands last place (host.Run e) = IsLast stands last place
-TurnedBy stands last place _ = Unit {0}

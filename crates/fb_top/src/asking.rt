@@ -1,19 +1,32 @@
-ghost use Rattle.std.specs.Prelude.{◌≡◌, ◌⊎◌, ℕ, ◌+◌, ◌*◌, ◌<◌, ◌≤◌, Option, Some, None, List, length, IsTrue, OnOk, IfOk, IfErr};
-ghost use Rattle.std.specs.Result.{result_ok};
-ghost use Rattle.fb_frame.specs.Causes.{Rose};
-ghost use Rattle.fb_message.specs.CommandText.{GetVar, command_value, is_written, spelling};
-ghost use Rattle.fb_message.specs.ReplyText.{reply_of};
-ghost use Rattle.wire_told.specs.Places.{IsKept};
-ghost use Rattle.wire_told.specs.Replied.{is_steady};
-ghost use Rattle.wire_told.specs.Told.{Idle};
-ghost use Rattle.fb_top.specs.Asking.{Answered, ValidPeer, IsTaken, Why, IsCut, NeverRefuses, data_of, Behind, Tells, told_text};
+ghost use Rattle.std.specs.Prelude.{◌≡◌, ℕ, ◌+◌, ◌≤◌, Option, Some, None, List, length, take, IsTrue, OnOk, IfOk, IfErr};
+ghost use Rattle.fb_message.specs.ReplyText.{reply_bytes};
+ghost use Rattle.wire_told.specs.FirstPath.{is_first_question};
+ghost use Rattle.fb_top.specs.Asking.{Fit, Moves, Tells, told_text, IsStopped, NeverRefuses, fail_of};
 
-use fb_link::host::{AskError, ask};
+use fb_frame::sink::{Sink, SinkFault};
+use fb_link::link_error::LinkError;
 use fb_link::port::Port;
-use fb_message::command::{Command, write_command};
+use fb_link::states::{Answer, Lost, Ready};
+use fb_message::command::Command;
 use fb_message::line::Line;
 use fb_message::packet::Packet;
-use fb_message::reply::{BadReply, Reply, read_reply, write_reply};
+use fb_message::reply::{Reply, write_reply};
+
+/// Takes the lines that a device sends before a reply, and shows them nowhere.
+#[derive(Debug, Drop)]
+pub(crate) struct Unseen;
+
+impl Sink for Unseen {
+    ghost use Rattle.std.specs.Prelude.{None};
+
+    ghost text = { λ s. None };
+
+    ghost faults = { λ s. 0 };
+
+    fn put(&mut self, _bytes: &[u8]) -> Result<(), SinkFault> {
+        Ok(())
+    }
+}
 
 /// Why a command of the host isn't carried out.
 #[derive(Debug, Drop)]
@@ -33,42 +46,26 @@ pub enum Told {
     Refusal(Line),
 }
 
-/// The first bytes of an answer, as they are kept for a person to see.
-pub(crate) fn kept(answer: &[u8]) -> Line {
-    let end = answer.len().min(252);
-    Line::read(&answer[..end]).unwrap()
+/// How many bytes of an answer are kept for a person to see.
+const MOST_KEPT: usize = 252;
+
+/// The first kept bytes.
+fn front(kept: &[u8]) -> &[u8]
+    ensures { result.now ≡ take 252 kept.now }
+{
+    if kept.len() > MOST_KEPT {
+        &kept[..MOST_KEPT]
+    } else {
+        kept
+    }
 }
 
-/// Sends a command, and answers the reply that comes next.
-#[tactic(auto, using(crate::proofs::AskingLemmas::tell_command))]
-pub fn tell<P: Port>(port: &mut P, command: &Command<'_>) -> Result<Reply, AskFail>
-    ghost spare: { ℕ }
-    requires up { IsTrue (P.up port.old) }
-    requires idle { Idle (4104 + 9 * data_of (command_value command.now) + spare) (P.peer port.old) }
-    requires valid { ValidPeer (P.peer port.old) }
-    requires taken { IsTaken (P.peer port.old) (command_value command.now) }
-    requires written { IsTrue (is_written (command_value command.now)) }
-    ensures up { OnOk result (IsTrue (P.up port.new)) }
-    ensures answered { IfOk result (λ reply. Answered (P.faults port.old) (P.faults port.new) (P.peer port.old) (P.peer port.new) (command_value command.now) reply) }
-    ensures behind { IfOk result (λ reply. Behind spare (command_value command.now) reply (P.peer port.new)) }
-    ensures why { IfErr result (λ e. Why (NeverRefuses (P.peer port.old)) (IsCut (P.faults port.old) (P.faults port.new) (P.ends port.old) (P.ends port.new)) (P.peer port.old) e) }
-    ensures kept { IsKept (P.aimed port.old) (P.aimed port.new) (P.last port.old) (P.last port.new) (P.stands port.old) (P.stands port.new) }
-    ensures later { P.faults port.old ≤ P.faults port.new }
-    ensures ends { P.ends port.old ≤ P.ends port.new }
+/// The first bytes of an answer, as they are kept for a person to see.
+#[tactic(auto, using(crate::proofs::AskingLemmas::keeps))]
+pub(crate) fn kept(answer: &[u8]) -> Line
+    ensures { result ≡ take 252 answer.now }
 {
-    let mut packet = Packet::new();
-    write_command(command, &mut packet);
-    let mut buf = [0; 256];
-    let n = match ask(port, packet.bytes(), &mut buf) {
-        Ok(n) => n,
-        Err(AskError::Link) => return Err(AskFail::Link),
-        Err(AskError::Ended) => return Err(AskFail::Link),
-        Err(AskError::BadReply) => return Err(AskFail::Unknown(kept(&buf))),
-    };
-    match read_reply(&buf[..n]) {
-        Ok(reply) => Ok(reply),
-        Err(BadReply) => Err(AskFail::Unknown(kept(&buf[..n]))),
-    }
+    Line::read(front(answer)).unwrap()
 }
 
 /// The bytes of a reply, as they are kept for a person to see.
@@ -78,29 +75,42 @@ pub(crate) fn kept_reply(reply: &Reply) -> Line {
     kept(packet.bytes())
 }
 
-/// Asks for the text of a variable.
-#[tactic(auto, using(crate::proofs::AskingLemmas::ask_variables))]
-pub fn ask_variable<P: Port>(port: &mut P, name: &[u8]) -> Result<Told, AskFail>
-    ghost spare: { ℕ }
-    requires up { IsTrue (P.up port.old) }
-    requires idle { Idle (4104 + spare) (P.peer port.old) }
-    requires valid { ValidPeer (P.peer port.old) }
-    requires taken { IsTaken (P.peer port.old) (GetVar name.now) }
-    requires one { IsTrue (is_steady (GetVar name.now)) }
-    requires short { length name.now ≤ 4089 }
-    ensures up { OnOk result (IsTrue (P.up port.new)) }
-    ensures told { IfOk result (λ told. Tells (P.peer port.old) (P.peer port.new) name.now (told_text told)) }
-    ensures idle { OnOk result (Idle spare (P.peer port.new)) }
-    ensures valid { OnOk result (ValidPeer (P.peer port.new)) }
-    ensures why { IfErr result (λ e. Why (NeverRefuses (P.peer port.old)) (IsCut (P.faults port.old) (P.faults port.new) (P.ends port.old) (P.ends port.new)) (P.peer port.old) e) }
-    ensures kept { IsKept (P.aimed port.old) (P.aimed port.new) (P.last port.old) (P.last port.new) (P.stands port.old) (P.stands port.new) }
-    ensures later { P.faults port.old ≤ P.faults port.new }
-    ensures ends { P.ends port.old ≤ P.ends port.new }
+/// What a broken connection makes of a command.
+pub(crate) fn failure(error: LinkError) -> AskFail
+    ensures { result ≡ fail_of error }
 {
-    match tell(port, &Command::GetVar(name)) {
-        Ok(Reply::Okay(line)) => Ok(Told::Text(line)),
-        Ok(Reply::Fail(line)) => Ok(Told::Refusal(line)),
-        Ok(other) => Err(AskFail::Unknown(kept_reply(&other))),
-        Err(e) => Err(e),
+    match error {
+        LinkError::Link => AskFail::Link,
+        LinkError::Ended => AskFail::Link,
+        LinkError::BadHandshake(four) => AskFail::Unknown(kept(&four)),
+        LinkError::BadLength(n) => AskFail::Unknown(kept(&n.to_be_bytes())),
+        LinkError::BadReply(reply) => AskFail::Unknown(kept(reply.bytes())),
+        LinkError::TooManyInfos => AskFail::Unknown(kept(&[])),
+    }
+}
+
+/// Asks for the text of a variable.
+#[tactic(auto, using(crate::proofs::AskingLemmas::asks))]
+pub fn ask_variable<P: Port>(
+    ready: Ready<P>,
+    name: &[u8],
+) -> Result<(Ready<P>, Told), (Lost<P>, AskFail)>
+    requires fit { Fit 4104 (P.told ready).peer }
+    requires question { IsTrue (is_first_question name.now) }
+    requires short { length name.now ≤ 4089 }
+    ensures same { IfOk result (λ r. P.lent r.0 ≡ P.lent ready) }
+    ensures same_lost { IfErr result (λ e. P.lent e.0 ≡ P.lent ready) }
+    ensures moves { IfOk result (λ r. Moves (P.told ready) (P.told r.0)) }
+    ensures tells { IfOk result (λ r.
+        Tells name.now (told_text r.1) (P.told ready).peer (P.told r.0).peer) }
+    ensures stopped { IfErr result (λ e. IsStopped NeverRefuses (P.told ready) (P.told e.0) e.1) }
+{
+    let mut unseen = Unseen;
+    match ready.command(&Command::GetVar(name), &mut unseen) {
+        Answer::Okay(ready, line) => Ok((ready, Told::Text(line))),
+        Answer::Fail(ready, line) => Ok((ready, Told::Refusal(line))),
+        Answer::Load(_) => unreachable!(),
+        Answer::Broken(lost, error) => Err((lost, failure(error))),
+        Answer::Unshown(_) => unreachable!(),
     }
 }

@@ -1,15 +1,16 @@
-ghost use Rattle.std.specs.Prelude.{◌≡◌, ◌≢◌, ◌⊎◌, ℕ, ◌≤◌, List, map, Option, Some, None, false, IsTrue, OnOk, IfOk, IfErr, string_bytes, option_map};
+ghost use Rattle.std.specs.Prelude.{◌≡◌, ◌≢◌, ◌⊎◌, ℕ, ◌≤◌, List, map, Option, Some, None, false, IsTrue, OnOk, IfOk, IfErr, string_bytes};
 ghost use Rattle.fb_frame.specs.Causes.{Rose};
-ghost use Rattle.wire_told.specs.Places.{ImageAt, Stands, IsLast, KeepsOthers};
-ghost use Rattle.fb_top.specs.Asking.{IsCut};
+ghost use Rattle.wire_told.specs.Places.{ImageAt, KeepsOthers};
+ghost use Rattle.fb_top.specs.Flashing.{HasHalted};
 ghost use Rattle.fb_top.specs.HostWords.{host_words, text_of};
-ghost use Rattle.fb_top.specs.Installs.{Succeeds, Installs, IsElsewhere, IsAbsent, IsUntold, IsEarly, IsStill, Leaves, QuietHost, WhyHost, status_of, OfProduct, InstallsOn};
-ghost use Rattle.fb_top.specs.Outcomes.{outcome_of, words_outcome, product_outcome, is_elsewhere};
+ghost use Rattle.fb_top.specs.Installs.{Succeeds, Installs, IsElsewhere, IsAbsent, IsUntold, IsBlind, IsCutFor, HasFaulted, IsStill, OfProduct, InstallsOn, outcome, WhyOpened, Stopped, IsEnd, IsEndOf, status_of};
+ghost use Rattle.fb_top.specs.Outcomes.{outcome_of, product_outcome, is_elsewhere};
+ghost use Rattle.fb_top.specs.Outsides.{Folder, folder, output, outside, scene, IsSamePort};
 ghost use Rattle.fb_top.specs.Printed.{printed};
 ghost use Rattle.fb_top.specs.Products.{IsRawImage};
-ghost use Rattle.fb_top.specs.Reports.{Reports, IsDone, Ends, EndsBy};
+ghost use Rattle.fb_top.specs.Reports.{Reports, IsDone, Ends, EndsBy, words_status, words_line};
 ghost use Rattle.fb_top.specs.Runs.{product_value};
-ghost use Rattle.fb_top.specs.Targets.{IsTurned, TurnedBy, KeepsBeside};
+ghost use Rattle.fb_top.specs.Targets.{IsAt, IsTurned, KeepsBeside};
 
 use crate::host_words::{FlashAll, read_host_words};
 use crate::lines::error_line;
@@ -68,8 +69,9 @@ fn open_product<D: ProductDir>(
     ensures product { IfOk result (λ p. OfProduct (D.files dir.old) p) }
     ensures raw { IfOk result (λ p. IsRawImage p.image) }
     ensures here { OnOk result (is_elsewhere (text_of words.now) (D.told_path dir.old) ≡ false) }
-    ensures why { IfErr result (λ e. (stands : Stands) → WhyHost (text_of words.now).dir (words_outcome (text_of words.now) (D.told_path dir.old) (D.files dir.old) stands) (Rose (D.faults dir.old) (D.faults dir.new)) (IsElsewhere (Some (text_of words.now)) (D.told_path dir.old)) ⊥ ⊥ ⊥ ⊥ ⊥ e) }
-    ensures early { IfErr result (λ e. IsEarly e) }
+    ensures why { IfErr result (λ e. WhyOpened (text_of words.now)
+        (folder (D.told_path dir.old) (D.files dir.old) (D.faults dir.old))
+        (folder (D.told_path dir.new) (D.files dir.new) (D.faults dir.new)) e) }
     ensures later { D.faults dir.old ≤ D.faults dir.new }
 {
     match dir.enter(alloc, words.dir) {
@@ -84,8 +86,8 @@ fn open_product<D: ProductDir>(
     }
 }
 
-/// Aims at the words' target, installs the product on the device that it stands for, and hangs up.
-#[tactic(auto, using(crate::proofs::HostLemmas::installs, crate::proofs::TargetLemmas::turns, crate::proofs::TargetLemmas::hangs))]
+/// Aims at the words' target, and installs the product on the device that it stands for.
+#[tactic(auto, using(crate::proofs::HostLemmas::installs))]
 fn flash_product<P: Port, S: Sink>(
     alloc: Global,
     words: &FlashAll<'_>,
@@ -94,16 +96,20 @@ fn flash_product<P: Port, S: Sink>(
     out: &mut S,
 ) -> Result<(), HostError>
     requires { IsRawImage product.now.image }
-    ensures success { OnOk result (InstallsOn product.now (P.stands port.old) (ImageAt words.now.image.now) (P.peer port.new)) }
-    ensures turned { OnOk result (IsLast (P.stands port.new) (P.last port.new) (ImageAt words.now.image.now)) }
-    ensures run { IfErr result (λ e. TurnedBy (P.stands port.new) (P.last port.new) (ImageAt words.now.image.now) e) }
-    ensures others { KeepsOthers (Some (ImageAt words.now.image.now)) (P.stands port.old) (P.stands port.new) }
-    ensures done { OnOk result (IsDone (product_outcome (product_value product.now) (P.stands port.old (ImageAt words.now.image.now))) (S.text out.old) (S.text out.new)) }
-    ensures quiet { IfErr result (λ e. QuietHost (product_outcome (product_value product.now) (P.stands port.old (ImageAt words.now.image.now))) (S.text out.old) (S.text out.new) (Rose (P.faults port.old) (P.faults port.new)) e) }
-    ensures why { IfErr result (λ e. WhyHost (text_of words.now).dir (product_outcome (product_value product.now) (P.stands port.old (ImageAt words.now.image.now))) ⊥ ⊥ (IsCut (P.faults port.old) (P.faults port.new) (P.ends port.old) (P.ends port.new)) (IsAbsent (Some (text_of words.now)) (P.stands port.old)) (Rose (P.faults port.old) (P.faults port.new)) (Rose (S.faults out.old) (S.faults out.new)) (IsUntold (Some (text_of words.now)) (P.stands port.old)) e) }
-    ensures left { IfErr result (λ e. Leaves (P.stands port.old (ImageAt words.now.image.now)) (P.stands port.old) (P.stands port.new) (P.peer port.new) (Rose (P.faults port.old) (P.faults port.new)) e) }
-    ensures later { P.faults port.old ≤ P.faults port.new }
-    ensures ends { P.ends port.old ≤ P.ends port.new }
+    ensures same { P.lent port.new ≡ P.lent port.old }
+    ensures success { OnOk result (InstallsOn product.now
+        (P.told port.old).stands (ImageAt words.now.image.now) (P.told port.new).peer) }
+    ensures turned { OnOk result (IsAt (text_of words.now) (P.told port.new)) }
+    ensures others { KeepsOthers (Some (ImageAt words.now.image.now))
+        (P.told port.old).stands (P.told port.new).stands }
+    ensures done { OnOk result (IsDone
+        (product_outcome (product_value product.now) ((P.told port.old).stands (ImageAt words.now.image.now)))
+        (S.text out.old) (S.text out.new)) }
+    ensures stopped { IfErr result (λ e. (f g : Folder) → Stopped
+        (product_outcome (product_value product.now) ((P.told port.old).stands (ImageAt words.now.image.now)))
+        (text_of words.now)
+        (outside f (P.told port.old) (output (S.text out.old) (S.faults out.old)))
+        (outside g (P.told port.new) (output (S.text out.new) (S.faults out.new))) e) }
     ensures said { S.faults out.old ≤ S.faults out.new }
 {
     match port.aim(alloc, &Target::Image(words.image)) {
@@ -113,16 +119,14 @@ fn flash_product<P: Port, S: Sink>(
         Err(AimError::NoTarget) => return Err(HostError::Link),
         Err(AimError::Link) => return Err(HostError::Link),
     }
-    let outcome = drive(alloc, port, product, out);
-    port.hang_up();
-    match outcome {
+    match drive(alloc, port, product, out) {
         Ok(()) => Ok(()),
         Err(e) => Err(HostError::Run(e)),
     }
 }
 
 /// Installs the words' product on the device that the words' target stands for.
-#[tactic(auto, using(crate::proofs::HostLemmas::flashes, crate::proofs::TargetLemmas::stays))]
+#[tactic(auto, using(crate::proofs::HostLemmas::flashes))]
 fn flash_all<D: ProductDir, P: Port, S: Sink>(
     alloc: Global,
     words: &FlashAll<'_>,
@@ -130,17 +134,26 @@ fn flash_all<D: ProductDir, P: Port, S: Sink>(
     port: &mut P,
     out: &mut S,
 ) -> Result<(), HostError>
-    ensures success { OnOk result (Succeeds (text_of words.now) (D.files dir.old) (P.stands port.old) (P.peer port.new)) }
-    ensures turned { OnOk result (IsLast (P.stands port.new) (P.last port.new) (ImageAt words.now.image.now)) }
-    ensures run { IfErr result (λ e. TurnedBy (P.stands port.new) (P.last port.new) (ImageAt words.now.image.now) e) }
-    ensures others { KeepsOthers (Some (ImageAt words.now.image.now)) (P.stands port.old) (P.stands port.new) }
-    ensures done { OnOk result (IsDone (words_outcome (text_of words.now) (D.told_path dir.old) (D.files dir.old) (P.stands port.old)) (S.text out.old) (S.text out.new)) }
-    ensures quiet { IfErr result (λ e. QuietHost (words_outcome (text_of words.now) (D.told_path dir.old) (D.files dir.old) (P.stands port.old)) (S.text out.old) (S.text out.new) (Rose (P.faults port.old) (P.faults port.new)) e) }
-    ensures why { IfErr result (λ e. WhyHost (text_of words.now).dir (words_outcome (text_of words.now) (D.told_path dir.old) (D.files dir.old) (P.stands port.old)) (Rose (D.faults dir.old) (D.faults dir.new)) (IsElsewhere (Some (text_of words.now)) (D.told_path dir.old)) (IsCut (P.faults port.old) (P.faults port.new) (P.ends port.old) (P.ends port.new)) (IsAbsent (Some (text_of words.now)) (P.stands port.old)) (Rose (P.faults port.old) (P.faults port.new)) (Rose (S.faults out.old) (S.faults out.new)) (IsUntold (Some (text_of words.now)) (P.stands port.old)) e) }
-    ensures left { IfErr result (λ e. Leaves (P.stands port.old (ImageAt words.now.image.now)) (P.stands port.old) (P.stands port.new) (P.peer port.new) (Rose (P.faults port.old) (P.faults port.new)) e) }
-    ensures files { D.faults dir.old ≤ D.faults dir.new }
-    ensures later { P.faults port.old ≤ P.faults port.new }
-    ensures ends { P.ends port.old ≤ P.ends port.new }
+    ensures same { P.lent port.new ≡ P.lent port.old }
+    ensures success { OnOk result (Succeeds (text_of words.now)
+        (D.files dir.old) (P.told port.old).stands (P.told port.new).peer) }
+    ensures turned { OnOk result (IsAt (text_of words.now) (P.told port.new)) }
+    ensures others { KeepsOthers (Some (ImageAt words.now.image.now))
+        (P.told port.old).stands (P.told port.new).stands }
+    ensures done { OnOk result (IsDone
+        (outcome (text_of words.now)
+        (outside (folder (D.told_path dir.old) (D.files dir.old) (D.faults dir.old))
+        (P.told port.old) (output (S.text out.old) (S.faults out.old))))
+        (S.text out.old) (S.text out.new)) }
+    ensures stopped { IfErr result (λ e. Stopped
+        (outcome (text_of words.now)
+        (outside (folder (D.told_path dir.old) (D.files dir.old) (D.faults dir.old))
+        (P.told port.old) (output (S.text out.old) (S.faults out.old))))
+        (text_of words.now)
+        (outside (folder (D.told_path dir.old) (D.files dir.old) (D.faults dir.old))
+        (P.told port.old) (output (S.text out.old) (S.faults out.old)))
+        (outside (folder (D.told_path dir.new) (D.files dir.new) (D.faults dir.new))
+        (P.told port.new) (output (S.text out.new) (S.faults out.new))) e) }
     ensures said { S.faults out.old ≤ S.faults out.new }
 {
     match open_product(alloc, words, dir) {
@@ -153,8 +166,9 @@ fn flash_all<D: ProductDir, P: Port, S: Sink>(
 }
 
 /// Puts the last line, and answers the status: 9 where the line isn't put.
-fn last_line<S: Sink>(out: &mut S, line: &[u8], status: u8) -> u8
-    ensures status { Ends result status (S.text out.old) (S.text out.new) line.now (Rose (S.faults out.old) (S.faults out.new)) }
+pub(crate) fn last_line<S: Sink>(out: &mut S, line: &[u8], status: u8) -> u8
+    ensures status { Ends result status line.now
+        (output (S.text out.old) (S.faults out.old)) (output (S.text out.new) (S.faults out.new)) }
     ensures later { S.faults out.old ≤ S.faults out.new }
 {
     match out.put(line) {
@@ -165,7 +179,8 @@ fn last_line<S: Sink>(out: &mut S, line: &[u8], status: u8) -> u8
 
 /// Puts the line that names the error, unless the output failed already, and answers its status.
 fn report<S: Sink>(alloc: Global, words: &FlashAll<'_>, error: &HostError, out: &mut S) -> u8
-    ensures status { EndsBy result (status_of error.now) (S.text out.old) (S.text out.new) (printed (text_of words.now).dir error.now) (Rose (S.faults out.old) (S.faults out.new)) }
+    ensures status { EndsBy result (status_of error.now) (printed (text_of words.now).dir error.now)
+        (output (S.text out.old) (S.faults out.old)) (output (S.text out.new) (S.faults out.new)) }
     ensures later { S.faults out.old ≤ S.faults out.new }
 {
     let status = status_of(error);
@@ -181,7 +196,6 @@ fn report<S: Sink>(alloc: Global, words: &FlashAll<'_>, error: &HostError, out: 
 }
 
 /// Does what the words ask for, and puts the last line.
-#[tactic(auto, using(crate::proofs::HostLemmas::ends, crate::proofs::TargetLemmas::ended))]
 fn run_words<D: ProductDir, P: Port, S: Sink>(
     alloc: Global,
     words: &FlashAll<'_>,
@@ -189,19 +203,12 @@ fn run_words<D: ProductDir, P: Port, S: Sink>(
     port: &mut P,
     out: &mut S,
 ) -> u8
-    ensures success { result ≡ 0 → Succeeds (text_of words.now) (D.files dir.old) (P.stands port.old) (P.peer port.new) }
-    ensures turned { (result ≡ 0) ⊎ ((result ≡ 7) ⊎ (result ≡ 10)) → IsLast (P.stands port.new) (P.last port.new) (ImageAt words.now.image.now) }
-    ensures others { KeepsOthers (Some (ImageAt words.now.image.now)) (P.stands port.old) (P.stands port.new) }
-    ensures usage { result ≢ 1 }
-    ensures reported { Reports (words_outcome (text_of words.now) (D.told_path dir.old) (D.files dir.old) (P.stands port.old)) result (S.text out.old) (S.text out.new) (Rose (D.faults dir.old) (D.faults dir.new)) (IsCut (P.faults port.old) (P.faults port.new) (P.ends port.old) (P.ends port.new)) (Rose (P.faults port.old) (P.faults port.new)) (Rose (S.faults out.old) (S.faults out.new)) }
-    ensures directory { result ≡ 3 → Rose (D.faults dir.old) (D.faults dir.new) ⊎ IsElsewhere (Some (text_of words.now)) (D.told_path dir.old) }
-    ensures requirement { result ≢ 5 }
-    ensures link { result ≡ 6 → IsCut (P.faults port.old) (P.faults port.new) (P.ends port.old) (P.ends port.new) ⊎ IsAbsent (Some (text_of words.now)) (P.stands port.old) }
-    ensures peer { result ≡ 8 → IsUntold (Some (text_of words.now)) (P.stands port.old) }
-    ensures output { result ≡ 9 → Rose (S.faults out.old) (S.faults out.new) }
-    ensures untouched { (result ≡ 3) ⊎ ((result ≡ 4) ⊎ (result ≡ 11)) → P.stands port.new ≡ P.stands port.old }
-    ensures unplanned { result ≡ 10 → IsStill (Some (text_of words.now)) (P.stands port.old) (P.peer port.new) }
-    ensures unflashed { result ≡ 7 → IsStill (Some (text_of words.now)) (P.stands port.old) (P.peer port.new) ⊎ Rose (P.faults port.old) (P.faults port.new) }
+    ensures same { P.lent port.new ≡ P.lent port.old }
+    ensures end { IsEnd (text_of words.now) result
+        (outside (folder (D.told_path dir.old) (D.files dir.old) (D.faults dir.old))
+        (P.told port.old) (output (S.text out.old) (S.faults out.old)))
+        (outside (folder (D.told_path dir.new) (D.files dir.new) (D.faults dir.new))
+        (P.told port.new) (output (S.text out.new) (S.faults out.new))) }
 {
     match flash_all(alloc, words, dir, port, out) {
         Ok(()) => {
@@ -215,30 +222,21 @@ fn run_words<D: ProductDir, P: Port, S: Sink>(
     }
 }
 
-/// Runs fbflash: `words` are those of its command line without the program's name. Answers the
-/// status that the program ends with, and puts the lines that it prints into `out`.
-#[tactic(auto, using(crate::proofs::HostLemmas::mains, crate::proofs::TargetLemmas::stays))]
-pub fn host_main<D: ProductDir, P: Port, S: Sink>(
+/// Does what the words ask for, or puts the line of words that are refused.
+#[tactic(auto, using(crate::proofs::HostLemmas::words_end))]
+fn run_main<D: ProductDir, P: Port, S: Sink>(
     alloc: Global,
     words: &[String],
     dir: &mut D,
     port: &mut P,
     out: &mut S,
 ) -> u8
-    ensures success { result ≡ 0 → Installs (host_words (map string_bytes words.now)) (D.files dir.old) (P.stands port.old) (P.peer port.new) }
-    ensures turned { (result ≡ 0) ⊎ ((result ≡ 7) ⊎ (result ≡ 10)) → IsTurned (host_words (map string_bytes words.now)) (P.stands port.new) (P.last port.new) }
-    ensures others { KeepsBeside (host_words (map string_bytes words.now)) (P.stands port.old) (P.stands port.new) }
-    ensures usage { result ≡ 1 → host_words (map string_bytes words.now) ≡ None }
-    ensures refused { host_words (map string_bytes words.now) ≡ None → (result ≡ 1) ⊎ ((result ≡ 9) × Rose (S.faults out.old) (S.faults out.new)) }
-    ensures reported { Reports (outcome_of (host_words (map string_bytes words.now)) (D.told_path dir.old) (D.files dir.old) (P.stands port.old)) result (S.text out.old) (S.text out.new) (Rose (D.faults dir.old) (D.faults dir.new)) (IsCut (P.faults port.old) (P.faults port.new) (P.ends port.old) (P.ends port.new)) (Rose (P.faults port.old) (P.faults port.new)) (Rose (S.faults out.old) (S.faults out.new)) }
-    ensures directory { result ≡ 3 → Rose (D.faults dir.old) (D.faults dir.new) ⊎ IsElsewhere (host_words (map string_bytes words.now)) (D.told_path dir.old) }
-    ensures requirement { result ≢ 5 }
-    ensures link { result ≡ 6 → IsCut (P.faults port.old) (P.faults port.new) (P.ends port.old) (P.ends port.new) ⊎ IsAbsent (host_words (map string_bytes words.now)) (P.stands port.old) }
-    ensures peer { result ≡ 8 → IsUntold (host_words (map string_bytes words.now)) (P.stands port.old) }
-    ensures output { result ≡ 9 → Rose (S.faults out.old) (S.faults out.new) }
-    ensures untouched { (result ≡ 1) ⊎ ((result ≡ 3) ⊎ ((result ≡ 4) ⊎ (result ≡ 11))) → P.stands port.new ≡ P.stands port.old }
-    ensures unplanned { result ≡ 10 → IsStill (host_words (map string_bytes words.now)) (P.stands port.old) (P.peer port.new) }
-    ensures unflashed { result ≡ 7 → IsStill (host_words (map string_bytes words.now)) (P.stands port.old) (P.peer port.new) ⊎ Rose (P.faults port.old) (P.faults port.new) }
+    ensures same { P.lent port.new ≡ P.lent port.old }
+    ensures end { IsEndOf (host_words (map string_bytes words.now)) result
+        (outside (folder (D.told_path dir.old) (D.files dir.old) (D.faults dir.old))
+        (P.told port.old) (output (S.text out.old) (S.faults out.old)))
+        (outside (folder (D.told_path dir.new) (D.files dir.new) (D.faults dir.new))
+        (P.told port.new) (output (S.text out.new) (S.faults out.new))) }
 {
     match read_host_words(words) {
         None => {
@@ -249,5 +247,75 @@ pub fn host_main<D: ProductDir, P: Port, S: Sink>(
             let status = run_words(alloc, &request, dir, port, out);
             status
         }
+    }
+}
+
+/// Runs fbflash: `words` are those of its command line without the program's name. Answers the
+/// status that the program ends with, and puts the lines that it prints into `out`.
+#[tactic(auto, using(crate::proofs::HostLemmas::mains))]
+pub fn host_main<D: ProductDir, P: Port, S: Sink>(
+    alloc: Global,
+    words: &[String],
+    dir: &mut D,
+    port: &mut P,
+    out: &mut S,
+) -> u8
+    ensures same { P.lent port.new ≡ P.lent port.old }
+    ensures success { result ≡ 0 → Installs (host_words (map string_bytes words.now))
+        (D.files dir.old) (P.told port.old).stands (P.told port.new).peer }
+    ensures turned { (result ≡ 0) ⊎ ((result ≡ 7) ⊎ ((result ≡ 8) ⊎ (result ≡ 10))) →
+        IsTurned (host_words (map string_bytes words.now)) (P.told port.new) }
+    ensures last { IsSamePort (P.told port.old) (P.told port.new) ⊎ (IsTrue (P.told port.new).aimed →
+        IsTurned (host_words (map string_bytes words.now)) (P.told port.new)) }
+    ensures others { KeepsBeside (host_words (map string_bytes words.now))
+        (P.told port.old).stands (P.told port.new).stands }
+    ensures usage { result ≡ 1 → host_words (map string_bytes words.now) ≡ None }
+    ensures refused { host_words (map string_bytes words.now) ≡ None →
+        (result ≡ 1) ⊎ ((result ≡ 9) × Rose (S.faults out.old) (S.faults out.new)) }
+    ensures reported { Reports
+        (outcome_of (host_words (map string_bytes words.now))
+        (D.told_path dir.old) (D.files dir.old) (P.told port.old).stands)
+        result (HasHalted (P.told port.new).peer)
+        (scene (D.faults dir.old) (P.told port.old).faults (output (S.text out.old) (S.faults out.old)))
+        (scene (D.faults dir.new) (P.told port.new).faults (output (S.text out.new) (S.faults out.new))) }
+    ensures directory { result ≡ 3 → Rose (D.faults dir.old) (D.faults dir.new)
+        ⊎ IsElsewhere (host_words (map string_bytes words.now)) (D.told_path dir.old) }
+    ensures requirement { result ≢ 5 }
+    ensures link { result ≡ 6 →
+        IsCutFor (host_words (map string_bytes words.now)) (P.told port.old) (P.told port.new)
+        ⊎ IsAbsent (host_words (map string_bytes words.now)) (P.told port.old).stands }
+    ensures peer { result ≡ 8 → IsUntold (host_words (map string_bytes words.now)) (P.told port.old).stands
+        × IsBlind (P.told port.new) }
+    ensures output { result ≡ 9 → Rose (S.faults out.old) (S.faults out.new) }
+    ensures untouched { (result ≡ 1) ⊎ ((result ≡ 3) ⊎ (result ≡ 4)) →
+        (P.told port.new).stands ≡ (P.told port.old).stands }
+    ensures unopened { result ≡ 11 → (P.told port.new).honest →
+        (P.told port.new).stands ≡ (P.told port.old).stands }
+    ensures unplanned { result ≡ 10 → IsStill (host_words (map string_bytes words.now))
+        (P.told port.old).stands (P.told port.new).peer }
+    ensures unflashed { result ≡ 7 → IsStill (host_words (map string_bytes words.now))
+        (P.told port.old).stands (P.told port.new).peer
+        ⊎ HasFaulted (P.told port.old) (P.told port.new) }
+{
+    run_main(alloc, words, dir, port, out)
+}
+
+/// Why the words of a command line aren't given to `host_main`.
+#[derive(Clone, Copy, Debug, PartialEq, Eq)]
+pub enum WordsError {
+    /// A word isn't UTF-8.
+    NotText,
+    /// Memory was wanting for them.
+    Memory,
+}
+
+/// The status of a call whose words couldn't be read, with its line.
+pub fn refuse_words<S: Sink>(error: WordsError, out: &mut S) -> u8
+    ensures refused { Ends result (words_status error) (words_line error)
+        (output (S.text out.old) (S.faults out.old)) (output (S.text out.new) (S.faults out.new)) }
+{
+    match error {
+        WordsError::NotText => last_line(out, b"error usage\n", 1),
+        WordsError::Memory => last_line(out, b"error memory\n", 2),
     }
 }

@@ -1,7 +1,7 @@
 ghost use Rattle.std.specs.Prelude.{◌≡◌, ◌++◌, take, OnOk, IfOk};
 ghost use Rattle.hex.specs.Hex.{encode_lower};
 ghost use Rattle.fb_top.specs.HostWords.{text_of};
-ghost use Rattle.fb_top.specs.Printed.{shown_byte, shown, flaw_text, plan_text, image_text, directory_text, flawed_text, refused_text, unplanned_text, peer_text, product_text, stop_text, host_text, printed};
+ghost use Rattle.fb_top.specs.Printed.{flaw_text, plan_text, image_text, directory_text, flawed_text, refused_text, unplanned_text, peer_text, product_text, stop_text, host_text, printed};
 
 use crate::host::HostError;
 use crate::host_words::FlashAll;
@@ -9,28 +9,12 @@ use crate::plan::PlanKind;
 use crate::product::{Flaw, ProductError};
 use crate::run::RunError;
 use dev_model::bad_image::BadImage;
+use fb_frame::shown::add_shown;
 use itoa::Buffer;
 use std::alloc::{AllocError, Global};
 
 /// How many kept bytes of a peer are printed.
 const MOST_KEPT: usize = 32;
-
-/// A byte of a text of the outside, `?` where it isn't printed ASCII.
-fn shown_byte(b: u8) -> u8
-    ensures { result ≡ shown_byte b }
-{
-    if b >= 0x20 && b <= 0x7e { b } else { b'?' }
-}
-
-/// Adds a text of the outside as it is printed.
-fn add_shown(line: &mut Vec<u8>, text: &[u8]) -> Result<(), AllocError>
-    ensures { OnOk result (line.new.items ≡ line.old.items ++ shown text.now) }
-{
-    for b in text {
-        line.push(shown_byte(*b))?;
-    }
-    Ok(())
-}
 
 /// The first kept bytes.
 fn front(kept: &[u8]) -> &[u8]

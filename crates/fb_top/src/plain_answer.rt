@@ -24,7 +24,9 @@ use fb_message::command::{BootTarget, Command, read_command};
 pub fn answer(device: &mut PlainDevice, line: &mut PlainLine, payload: &[u8]) -> bool
     requires { IsCommanding line.old payload.now }
     ensures answered { Answered device.old device.new line.old line.new (command_of payload.now) }
-    ensures halts { IsTrue result → Halts (dev_of device.old) (loaded_of line.old.loaded line.old.got.items) (command_of payload.now) (with_mode Halted (dev_of device.new)) }
+    ensures halts { IsTrue result → Halts (dev_of device.old)
+        (loaded_of line.old.loaded line.old.got.items) (command_of payload.now) (with_mode Halted
+        (dev_of device.new)) }
     ensures kept { KeepsFront device.old device.new }
     ensures same { IsFalse result → device.new.image.items ≡ device.old.image.items }
 {
@@ -138,7 +140,8 @@ pub fn receive(line: &mut PlainLine, count: u32, payload: &[u8])
 /// Why a flash is refused, None where it is taken.
 fn refusal(device: &PlainDevice, line: &PlainLine, name: &Name) -> Option<&'static [u8]>
     requires raw { IsTrue (is_raw (loaded_of line.now.loaded line.now.got.items)) }
-    ensures text { option_map (λ t. t.now) result ≡ flash_refusal (dev_of device.now) (loaded_of line.now.loaded line.now.got.items) name.now }
+    ensures text { option_map (λ t. t.now) result ≡ flash_refusal (dev_of device.now)
+        (loaded_of line.now.loaded line.now.got.items) name.now }
     ensures short { IfSome result (λ t. length t.now ≤ 20) }
     ensures taken { IfNone result (IsTaking device.now line.now name.now) }
 {
@@ -163,7 +166,9 @@ fn flash(device: &mut PlainDevice, line: &mut PlainLine, name: &Name) -> bool
     requires running { line.old.closed ≡ false }
     requires raw { IsTrue (is_raw (loaded_of line.old.loaded line.old.got.items)) }
     ensures answered { Answered device.old device.new line.old line.new (Flash name.now) }
-    ensures halts { IsTrue result → Halts (dev_of device.old) (loaded_of line.old.loaded line.old.got.items) (Flash name.now) (with_mode Halted (dev_of device.new)) }
+    ensures halts { IsTrue result → Halts (dev_of device.old)
+        (loaded_of line.old.loaded line.old.got.items) (Flash name.now) (with_mode Halted
+        (dev_of device.new)) }
     ensures kept { KeepsFront device.old device.new }
     ensures same { IsFalse result → device.new.image.items ≡ device.old.image.items }
 {

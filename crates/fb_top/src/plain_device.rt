@@ -58,7 +58,8 @@ impl PlainDevice {
     /// Puts a raw file over the partition, with zeros up to a whole block.
     pub fn put(&mut self, file: &[u8])
         requires { round_up (length file.now) ≤ self.old.layout.size }
-        ensures partition { drop 12288 self.new.image.items ≡ over (map Byte (padded_file file.now)) (drop 12288 self.old.image.items) }
+        ensures partition { drop 12288 self.new.image.items ≡ over (map Byte (padded_file file.now))
+            (drop 12288 self.old.image.items) }
         ensures kept { KeepsFront self.old self.new }
         ensures mode { self.new.mode ≡ self.old.mode }
     {
@@ -69,7 +70,9 @@ impl PlainDevice {
 /// Puts the bytes over the first ones, with zeros up to a whole block.
 fn put_raw(bytes: &mut [u8], file: &[u8])
     requires { next_multiple_of (length file.now) 4096 ≤ length bytes.old }
-    ensures { bytes.new ≡ file.now ++ (replicate (next_multiple_of (length file.now) 4096 - length file.now) 0 ++ drop (next_multiple_of (length file.now) 4096) bytes.old) }
+    ensures { bytes.new ≡ file.now ++ (replicate (next_multiple_of
+        (length file.now) 4096 - length file.now) 0 ++ drop (next_multiple_of
+        (length file.now) 4096) bytes.old) }
 {
     let end = file.len().next_multiple_of(4096);
     bytes[..file.len()].copy_from_slice(file);

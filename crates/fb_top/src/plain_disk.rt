@@ -4,7 +4,8 @@ ghost use Rattle.fb_frame.specs.Causes.{HasCause, Rose};
 ghost use Rattle.dev_model.specs.declared.device.Mode.TheVariants.{Halted};
 ghost use Rattle.dev_model.specs.Partitions.{with_mode};
 ghost use Rattle.dev_disk.specs.Calls.{IsOpen};
-ghost use Rattle.dev_disk.specs.Files.{KeepsUnopened, Wrote, content};
+ghost use Rattle.dev_disk.specs.Disks.{open_bytes};
+ghost use Rattle.dev_disk.specs.Files.{KeepsUnopened, Wrote};
 ghost use Rattle.wire_told.specs.Peers.{Apart};
 ghost use Rattle.wire_told.specs.Places.{ImageAt, Nothing, Aims, IsBad};
 ghost use Rattle.wire_told.specs.Told.{IsLeft};
@@ -26,14 +27,17 @@ use std::alloc::Global;
 
 /// Opens the file of the path, and reads it whole.
 fn read_file<K: Disk>(alloc: Global, disk: &mut K, path: &str) -> Result<Vec<u8>, AimError>
-    ensures read { IfOk result (λ image. IsFileOf (K.files disk.old) path.now image.items) }
-    ensures length { IfOk result (λ image. K.open_length disk.new ≡ Some (vec_len image)) }
-    ensures path { OnOk result (IsOpen (K.files disk.old) (K.open_path disk.new) path.now) }
-    ensures nothing { IsErrOf result AimError.NoTarget → plain_stands (K.files disk.old) (ImageAt path.now) ≡ Some Nothing }
-    ensures bad { (bad : _) → IsErrOf result (AimError.BadDevice bad) → IsBad (plain_stands (K.files disk.old)) (ImageAt path.now) bad }
-    ensures link { IsErrOf result AimError.Link → Rose (K.faults disk.old) (K.faults disk.new) }
-    ensures later { K.faults disk.old ≤ K.faults disk.new }
-    ensures files { K.files disk.new ≡ K.files disk.old }
+    ensures read { IfOk result (λ image. IsFileOf (K.told disk.old).files path.now image.items) }
+    ensures length { IfOk result (λ image. (K.told disk.new).open_length ≡ Some (vec_len image)) }
+    ensures path { OnOk result (IsOpen (K.told disk.old).files (K.told disk.new).open_path path.now) }
+    ensures nothing { IsErrOf result AimError.NoTarget →
+        plain_stands (K.told disk.old).files (ImageAt path.now) ≡ Some Nothing }
+    ensures bad { (bad : _) → IsErrOf result (AimError.BadDevice bad) →
+        IsBad (plain_stands (K.told disk.old).files) (ImageAt path.now) bad }
+    ensures link { IsErrOf result AimError.Link → Rose (K.told disk.old).faults (K.told disk.new).faults }
+    ensures later { (K.told disk.old).faults ≤ (K.told disk.new).faults }
+    ensures files { (K.told disk.new).files ≡ (K.told disk.old).files }
+    ensures same { K.lent disk.new ≡ K.lent disk.old }
 {
     let Ok(found) = disk.open(path) else {
         return Err(AimError::Link);
@@ -56,15 +60,19 @@ pub fn open_device<K: Disk>(
     disk: &mut K,
     path: &str,
 ) -> Result<PlainDevice, AimError>
-    ensures aims { IfOk result (λ device. Aims (plain_stands (K.files disk.old)) (ImageAt path.now) (Some (Apart (dev_of device)))) }
-    ensures image { IfOk result (λ device. IsImage (content (K.files disk.new) (K.open_path disk.new)) device.image.items) }
-    ensures length { IfOk result (λ device. K.open_length disk.new ≡ Some (vec_len device.image)) }
-    ensures path { OnOk result (IsOpen (K.files disk.old) (K.open_path disk.new) path.now) }
-    ensures nothing { IsErrOf result AimError.NoTarget → plain_stands (K.files disk.old) (ImageAt path.now) ≡ Some Nothing }
-    ensures bad { (bad : _) → IsErrOf result (AimError.BadDevice bad) → IsBad (plain_stands (K.files disk.old)) (ImageAt path.now) bad }
-    ensures link { IsErrOf result AimError.Link → Rose (K.faults disk.old) (K.faults disk.new) }
-    ensures later { K.faults disk.old ≤ K.faults disk.new }
-    ensures files { K.files disk.new ≡ K.files disk.old }
+    ensures aims { IfOk result (λ device.
+        Aims (plain_stands (K.told disk.old).files) (ImageAt path.now) (Some (Apart (dev_of device)))) }
+    ensures image { IfOk result (λ device. IsImage (open_bytes (K.told disk.new)) device.image.items) }
+    ensures length { IfOk result (λ device. (K.told disk.new).open_length ≡ Some (vec_len device.image)) }
+    ensures path { OnOk result (IsOpen (K.told disk.old).files (K.told disk.new).open_path path.now) }
+    ensures nothing { IsErrOf result AimError.NoTarget →
+        plain_stands (K.told disk.old).files (ImageAt path.now) ≡ Some Nothing }
+    ensures bad { (bad : _) → IsErrOf result (AimError.BadDevice bad) →
+        IsBad (plain_stands (K.told disk.old).files) (ImageAt path.now) bad }
+    ensures link { IsErrOf result AimError.Link → Rose (K.told disk.old).faults (K.told disk.new).faults }
+    ensures later { (K.told disk.old).faults ≤ (K.told disk.new).faults }
+    ensures files { (K.told disk.new).files ≡ (K.told disk.old).files }
+    ensures same { K.lent disk.new ≡ K.lent disk.old }
 {
     let image = read_file(alloc, disk, path)?;
     match read_image(&image) {
@@ -75,12 +83,14 @@ pub fn open_device<K: Disk>(
 
 /// Writes the partition to the open file, and waits until it is kept.
 fn store<K: Disk>(disk: &mut K, device: &PlainDevice) -> Result<(), DiskFault>
-    requires { K.open_length disk.old ≡ Some (vec_len device.now.image) }
-    ensures wrote { OnOk result (Wrote (content (K.files disk.old) (K.open_path disk.old)) (content (K.files disk.new) (K.open_path disk.new)) 12288 (drop 12288 device.now.image.items)) }
-    ensures length { K.open_length disk.new ≡ K.open_length disk.old }
-    ensures path { K.open_path disk.new ≡ K.open_path disk.old }
-    ensures others { KeepsUnopened (K.files disk.old) (K.files disk.new) (K.open_path disk.old) }
-    ensures cause { HasCause (K.faults disk.old) (K.faults disk.new) result }
+    requires { (K.told disk.old).open_length ≡ Some (vec_len device.now.image) }
+    ensures wrote { OnOk result (Wrote (open_bytes (K.told disk.old)) (open_bytes (K.told disk.new))
+        12288 (drop 12288 device.now.image.items)) }
+    ensures length { (K.told disk.new).open_length ≡ (K.told disk.old).open_length }
+    ensures path { (K.told disk.new).open_path ≡ (K.told disk.old).open_path }
+    ensures others { KeepsUnopened (K.told disk.old).files (K.told disk.new).files (K.told disk.old).open_path }
+    ensures cause { HasCause (K.told disk.old).faults (K.told disk.new).faults result }
+    ensures same { K.lent disk.new ≡ K.lent disk.old }
 {
     disk.write_at(FRONT as u64, device.partition())?;
     disk.sync()?;
@@ -94,8 +104,8 @@ pub fn send_to<K: Disk>(
     peer: &mut PlainPeer,
     bytes: &[u8],
 ) -> Result<usize, LinkFault>
-    requires stored { K.open_length disk.old ≡ Some (vec_len peer.old.device.image) }
-    requires held { IsImage (content (K.files disk.old) (K.open_path disk.old)) peer.old.device.image.items }
+    requires stored { (K.told disk.old).open_length ≡ Some (vec_len peer.old.device.image) }
+    requires held { IsImage (open_bytes (K.told disk.old)) peer.old.device.image.items }
     requires up { peer.old.up ≡ true }
     requires turn { IsTurn is_answered bytes.now (state_of peer.old) }
     ensures within { IfOk result (λ n. n ≤ length bytes.now) }
@@ -103,13 +113,15 @@ pub fn send_to<K: Disk>(
     ensures up { OnOk result (peer.new.up ≡ true) }
     ensures down { OnErr result (peer.new.up ≡ false) }
     ensures sent { IfOk result (λ n. state_of peer.new ≡ after (state_of peer.old) (take n bytes.now)) }
-    ensures left { OnErr result (IsLeft (Rose (K.faults disk.old) (K.faults disk.new)) bytes.now (state_of peer.old) (dev_of peer.new.device)) }
-    ensures stored { K.open_length disk.new ≡ Some (vec_len peer.new.device.image) }
-    ensures held { OnOk result (IsImage (content (K.files disk.new) (K.open_path disk.new)) peer.new.device.image.items) }
+    ensures left { OnErr result (IsLeft (Rose (K.told disk.old).faults (K.told disk.new).faults)
+        bytes.now (state_of peer.old) (dev_of peer.new.device)) }
+    ensures stored { (K.told disk.new).open_length ≡ Some (vec_len peer.new.device.image) }
+    ensures held { OnOk result (IsImage (open_bytes (K.told disk.new)) peer.new.device.image.items) }
     ensures halted { OnErr result (peer.new.device.mode ≡ Halted) }
-    ensures path { K.open_path disk.new ≡ K.open_path disk.old }
-    ensures others { KeepsUnopened (K.files disk.old) (K.files disk.new) (K.open_path disk.old) }
-    ensures cause { HasCause (K.faults disk.old) (K.faults disk.new) result }
+    ensures path { (K.told disk.new).open_path ≡ (K.told disk.old).open_path }
+    ensures others { KeepsUnopened (K.told disk.old).files (K.told disk.new).files (K.told disk.old).open_path }
+    ensures cause { HasCause (K.told disk.old).faults (K.told disk.new).faults result }
+    ensures same { K.lent disk.new ≡ K.lent disk.old }
 {
     let taken = peer.take(bytes);
     if taken.flashed {

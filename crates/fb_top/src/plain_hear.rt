@@ -69,7 +69,8 @@ fn is_frame(rest: &[u8]) -> bool
 fn greet(line: &mut PlainLine, bytes: &[u8])
     requires four { length bytes.now ≡ 4 }
     requires shaking { line.old.stage ≡ Stage.Shake }
-    ensures { (device : _) (rest : List ℕ) (taken : ℕ) → wire_of device line.new rest taken ≡ greeted (read_handshake bytes.now) (wire_of device line.old rest taken) }
+    ensures { (device : _) (rest : List ℕ) (taken : ℕ) → wire_of device line.new rest taken ≡ greeted
+        (read_handshake bytes.now) (wire_of device line.old rest taken) }
 {
     let mut four = [0; 4];
     four.copy_from_slice(bytes);
@@ -83,7 +84,8 @@ fn greet(line: &mut PlainLine, bytes: &[u8])
 fn hear(device: &mut PlainDevice, line: &mut PlainLine, bytes: &[u8]) -> bool
     requires ready { IsReady line.old bytes.now }
     requires whole { IsTrue (is_whole line.old.stage bytes.now) }
-    ensures heard { (rest : List ℕ) (taken : ℕ) → wire_of device.new line.new rest taken ≡ heard (item_of line.old.stage bytes.now) (wire_of device.old line.old rest taken) }
+    ensures heard { (rest : List ℕ) (taken : ℕ) → wire_of device.new line.new rest taken ≡ heard
+        (item_of line.old.stage bytes.now) (wire_of device.old line.old rest taken) }
     ensures halts { IsTrue result → MayHalt device.old device.new line.old (drop 8 bytes.now) }
     ensures kept { KeepsFront device.old device.new }
     ensures same { IsFalse result → device.new.image.items ≡ device.old.image.items }
@@ -104,8 +106,10 @@ fn hear(device: &mut PlainDevice, line: &mut PlainLine, bytes: &[u8]) -> bool
 /// Answers what has come whole, and drops it. Says whether the partition changed.
 pub fn advance(device: &mut PlainDevice, line: &mut PlainLine, rest: &mut Vec<u8>) -> bool
     requires ready { IsTrue (is_whole line.old.stage rest.old.items) → IsReady line.old rest.old.items }
-    requires cut { front (phase_of line.old.stage line.old.got.items) rest.old.items ≡ front_of line.old.stage rest.old.items }
-    ensures goes { (taken : ℕ) → wire_of device.new line.new rest.new.items taken ≡ once (front_of line.old.stage rest.old.items) (wire_of device.old line.old rest.old.items taken) }
+    requires cut { front (phase_of line.old.stage line.old.got.items) rest.old.items ≡ front_of
+        line.old.stage rest.old.items }
+    ensures goes { (taken : ℕ) → wire_of device.new line.new rest.new.items taken ≡ once
+        (front_of line.old.stage rest.old.items) (wire_of device.old line.old rest.old.items taken) }
     ensures part { IsTrue (is_part line.new.stage line.new.got.items rest.new.items) }
     ensures halts { IsTrue result → MayHalt device.old device.new line.old (drop 8 rest.old.items) }
     ensures whole { IsTrue result → IsTrue (is_whole line.old.stage rest.old.items) }

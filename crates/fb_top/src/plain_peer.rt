@@ -106,7 +106,8 @@ impl PlainPeer {
         ensures within { result.count ≤ length bytes.now }
         ensures some { 0 < length bytes.now → 0 < result.count }
         ensures after { state_of self.new ≡ after (state_of self.old) (take result.count bytes.now) }
-        ensures halts { IsTrue result.flashed → MayLead (state_of self.old) (take result.count bytes.now) (with_mode Halted (dev_of self.new.device)) }
+        ensures halts { IsTrue result.flashed → MayLead (state_of self.old)
+            (take result.count bytes.now) (with_mode Halted (dev_of self.new.device)) }
         ensures kept { KeepsFront self.old.device self.new.device }
         ensures same { IsFalse result.flashed → self.new.device.image.items ≡ self.old.device.image.items }
         ensures size { vec_len self.new.device.image ≡ vec_len self.old.device.image }

@@ -1,5 +1,5 @@
 ghost use Rattle.std.specs.Prelude.{◌≡◌, ℕ, true, false, None, Some, option_map, is_some, IsTrue, IsFalse};
-ghost use Rattle.dev_disk.specs.Files.{content};
+ghost use Rattle.dev_disk.specs.Disks.{open_bytes};
 ghost use Rattle.fb_top.specs.PlainDisks.{is_open_for, is_held};
 
 use crate::plain_disk::{open_device, send_to};
@@ -17,8 +17,8 @@ pub struct PlainPort<K: Disk> {
     disk: K,
     peer: Option<PlainPeer>,
     ends: u64,
-    ghost stored: { IsTrue (is_open_for (K.open_length disk) peer) },
-    ghost held: { IsTrue (is_held (content (K.files disk) (K.open_path disk)) peer) },
+    ghost stored: { IsTrue (is_open_for (K.told disk).open_length peer) },
+    ghost held: { IsTrue (is_held (open_bytes (K.told disk)) peer) },
 }
 
 impl<K: Disk> PlainPort<K> {
@@ -28,12 +28,13 @@ impl<K: Disk> PlainPort<K> {
 
     /// A port that isn't aimed.
     pub fn new(disk: K) -> PlainPort<K>
-        ensures aimed { IsFalse (⟦<PlainPort<K> as Port>⟧.aimed result) }
-        ensures up { IsFalse (⟦<PlainPort<K> as Port>⟧.up result) }
-        ensures peer { ⟦<PlainPort<K> as Port>⟧.peer result ≡ None }
-        ensures stands { ⟦<PlainPort<K> as Port>⟧.stands result ≡ plain_stands (K.files disk) }
-        ensures faults { ⟦<PlainPort<K> as Port>⟧.faults result ≡ K.faults disk }
-        ensures ends { ⟦<PlainPort<K> as Port>⟧.ends result ≡ 0 }
+        ensures aimed { IsFalse (⟦<PlainPort<K> as Port>⟧.told result).aimed }
+        ensures up { IsFalse (⟦<PlainPort<K> as Port>⟧.told result).up }
+        ensures peer { (⟦<PlainPort<K> as Port>⟧.told result).peer ≡ None }
+        ensures stands { (⟦<PlainPort<K> as Port>⟧.told result).stands ≡ plain_stands (K.told disk).files }
+        ensures faults { (⟦<PlainPort<K> as Port>⟧.told result).faults ≡ (K.told disk).faults }
+        ensures ends { (⟦<PlainPort<K> as Port>⟧.told result).ends ≡ 0 }
+        ensures same { ⟦<PlainPort<K> as Port>⟧.lent result ≡ K.lent disk }
     {
         PlainPort {
             disk,
@@ -44,7 +45,8 @@ impl<K: Disk> PlainPort<K> {
 
     /// The mode of the device that the port is aimed at.
     pub fn mode(&self) -> Option<Mode>
-        ensures { result ≡ option_map (λ peer. (device_of peer).mode) (⟦<PlainPort<K> as Port>⟧.peer self.now) }
+        ensures { result ≡
+            option_map (λ peer. (device_of peer).mode) (⟦<PlainPort<K> as Port>⟧.told self.now).peer }
     {
         match &self.peer {
             None => None,
@@ -54,7 +56,7 @@ impl<K: Disk> PlainPort<K> {
 
     /// How often the device ended its connection in place of an answer.
     pub fn ends(&self) -> u64
-        ensures { result ≡ ⟦<PlainPort<K> as Port>⟧.ends self.now }
+        ensures { result ≡ (⟦<PlainPort<K> as Port>⟧.told self.now).ends }
     {
         self.ends
     }
@@ -62,9 +64,11 @@ impl<K: Disk> PlainPort<K> {
     /// The disk of the port. The file of the last target stands for the port's device, unless that one
     /// halted.
     pub fn into_disk(self) -> K
-        ensures stands { plain_stands (K.files result) ≡ ⟦<PlainPort<K> as Port>⟧.stands self }
-        ensures faults { K.faults result ≡ ⟦<PlainPort<K> as Port>⟧.faults self }
-        ensures holds { Holds (⟦<PlainPort<K> as Port>⟧.stands self) (⟦<PlainPort<K> as Port>⟧.last self) (⟦<PlainPort<K> as Port>⟧.peer self) }
+        ensures stands { plain_stands (K.told result).files ≡ (⟦<PlainPort<K> as Port>⟧.told self).stands }
+        ensures faults { (K.told result).faults ≡ (⟦<PlainPort<K> as Port>⟧.told self).faults }
+        ensures holds { Holds (⟦<PlainPort<K> as Port>⟧.told self).stands
+            (⟦<PlainPort<K> as Port>⟧.told self).last (⟦<PlainPort<K> as Port>⟧.told self).peer }
+        ensures same { K.lent result ≡ ⟦<PlainPort<K> as Port>⟧.lent self }
     {
         self.disk
     }
@@ -76,23 +80,24 @@ impl<K: Disk> Port for PlainPort<K> {
     ghost use Rattle.fb_top.specs.PlainTurns.{is_answered};
     ghost use Rattle.wire_told.specs.Places.{ImageAt};
 
-    ghost peer = { λ p. peer_of p.peer };
+    ghost Lent = { K.Lent };
 
-    ghost up = { λ p. is_up p.peer };
+    ghost lent = { λ p. K.lent p.disk };
 
-    ghost aimed = { λ p. is_some p.peer };
-
-    ghost last = { λ p. option_map ImageAt (K.open_path p.disk) };
-
-    ghost stands = { λ p. plain_stands (K.files p.disk) };
-
-    ghost heard = { λ p. None };
+    ghost told = { λ p. record {
+      peer = peer_of p.peer;
+      up = is_up p.peer;
+      aimed = is_some p.peer;
+      last = option_map ImageAt (K.told p.disk).open_path;
+      stands = plain_stands (K.told p.disk).files;
+      heard = None;
+      log = None;
+      faults = (K.told p.disk).faults;
+      ends = p.ends;
+      honest = Unit {0};
+    } };
 
     ghost takes = { is_answered };
-
-    ghost faults = { λ p. K.faults p.disk };
-
-    ghost ends = { λ p. p.ends };
 
     fn aim(&mut self, alloc: Global, target: &Target<'_>) -> Result<(), AimError> {
         self.peer = None;
@@ -122,7 +127,9 @@ impl<K: Disk> Port for PlainPort<K> {
         let Some(peer) = &mut self.peer else {
             unreachable!()
         };
-        let count = send_to(&mut self.disk, peer, bytes)?;
+        let Ok(count) = send_to(&mut self.disk, peer, bytes) else {
+            return Err(LinkFault);
+        };
         Ok(count)
     }
 

@@ -1,6 +1,6 @@
 ghost use Rattle.std.specs.Prelude.{◌≡◌, ℕ, ◌+◌, ◌++◌, ◌≤◌, ◌<◌, Option, Some, List, Ok, Err, length, take, map, IsTrue, OnOk, IfOk, IfErr, option_copied};
 ghost use Rattle.dev_model.specs.declared.cells.Cell.TheVariants.{Byte};
-ghost use Rattle.flash_plan.specs.Files.{IsFile};
+ghost use Rattle.flash_plan.specs.Files.{IsFile, IsFileName};
 ghost use Rattle.fb_top.specs.Products.{requirements_file, tasks_file, image_file, flash_name, flash_task, is_task_name, behind_front, line_of, task_name, most_bytes, padded, image_flaw, IsRawImage, IsProduct, IsFlawed, SayRequirements, SayTask, SayImage, StopsAt, StopsRequirements, StopsTask, StopsImage, StopsProduct};
 
 use dev_model::cells::ByteList;
@@ -101,8 +101,10 @@ pub(crate) fn joined(front: &[u8], rest: &[u8]) -> Word
 }
 
 /// The file of a partition's image.
+#[tactic(auto, using(flash_plan::proofs::NameLemmas::images))]
 fn image_file(name: &Name) -> Word
-    ensures { result ≡ image_file name.now }
+    ensures image { result ≡ image_file name.now }
+    ensures name { IsFileName result }
 {
     joined(name.bytes(), b".img")
 }
@@ -114,10 +116,12 @@ fn read_product_file<D: ProductDir>(
     file: Word,
     most: usize,
 ) -> Result<ByteList, ProductError>
-    requires { IsTrue (D.entered dir.old) }
+    requires entered { IsTrue (D.entered dir.old) }
+    requires name { IsFileName file }
     ensures read { IfOk result (λ bytes. IsFile (D.files dir.old) file (Some bytes)) }
     ensures short { IfOk result (λ bytes. length bytes ≤ most) }
-    ensures stops { IfErr result (λ e. StopsAt (D.files dir.old) file most (D.faults dir.old) (D.faults dir.new) e) }
+    ensures stops { IfErr result (λ e. StopsAt (D.files dir.old) file most (D.faults dir.old)
+        (D.faults dir.new) e) }
     ensures entered { D.entered dir.new ≡ D.entered dir.old }
     ensures files { D.files dir.new ≡ D.files dir.old }
     ensures later { D.faults dir.old ≤ D.faults dir.new }
@@ -136,13 +140,15 @@ const REQUIREMENTS: &[u8; 16] = b"android-info.txt";
 const TASKS: &[u8; 17] = b"fastboot-info.txt";
 
 fn requirements_file() -> Word
-    ensures { result ≡ requirements_file }
+    ensures file { result ≡ requirements_file }
+    ensures name { IsFileName result }
 {
     Word::read(REQUIREMENTS).unwrap()
 }
 
 fn tasks_file() -> Word
-    ensures { result ≡ tasks_file }
+    ensures file { result ≡ tasks_file }
+    ensures name { IsFileName result }
 {
     Word::read(TASKS).unwrap()
 }
@@ -162,7 +168,8 @@ const SPARSE_MAGIC: [u8; 4] = [0x3a, 0xff, 0x26, 0xed];
 fn check_requirements<D: ProductDir>(alloc: Global, dir: &mut D) -> Result<(), ProductError>
     requires { IsTrue (D.entered dir.old) }
     ensures none { OnOk result (SayRequirements (D.files dir.old) (Ok tt)) }
-    ensures stops { IfErr result (λ e. StopsRequirements (D.files dir.old) (D.faults dir.old) (D.faults dir.new) e) }
+    ensures stops { IfErr result (λ e. StopsRequirements (D.files dir.old) (D.faults dir.old)
+        (D.faults dir.new) e) }
     ensures entered { D.entered dir.new ≡ D.entered dir.old }
     ensures files { D.files dir.new ≡ D.files dir.old }
     ensures later { D.faults dir.old ≤ D.faults dir.new }
@@ -225,7 +232,8 @@ fn read_image<D: ProductDir>(
     requires { IsTrue (D.entered dir.old) }
     ensures image { IfOk result (λ image. SayImage (D.files dir.old) name.now (Ok (map Byte image))) }
     ensures raw { IfOk result (λ image. IsRawImage image) }
-    ensures stops { IfErr result (λ e. StopsImage (D.files dir.old) name.now (D.faults dir.old) (D.faults dir.new) e) }
+    ensures stops { IfErr result (λ e. StopsImage (D.files dir.old) name.now (D.faults dir.old)
+        (D.faults dir.new) e) }
     ensures entered { D.entered dir.new ≡ D.entered dir.old }
     ensures files { D.files dir.new ≡ D.files dir.old }
     ensures later { D.faults dir.old ≤ D.faults dir.new }
@@ -247,7 +255,8 @@ pub fn inspect<D: ProductDir>(alloc: Global, dir: &mut D) -> Result<Product, Pro
     requires { IsTrue (D.entered dir.old) }
     ensures product { IfOk result (λ p. IsProduct (D.files dir.old) p.name (map Byte p.image)) }
     ensures raw { IfOk result (λ p. IsRawImage p.image) }
-    ensures stops { IfErr result (λ e. StopsProduct (D.files dir.old) (D.faults dir.old) (D.faults dir.new) e) }
+    ensures stops { IfErr result (λ e. StopsProduct (D.files dir.old) (D.faults dir.old)
+        (D.faults dir.new) e) }
     ensures entered { D.entered dir.new ≡ D.entered dir.old }
     ensures files { D.files dir.new ≡ D.files dir.old }
     ensures later { D.faults dir.old ≤ D.faults dir.new }

@@ -1,8 +1,6 @@
-ghost use Rattle.std.specs.Prelude.{◌≡◌, ◌⊎◌, ℕ, ◌+◌, ◌<◌, ◌≤◌, ◌++◌, Option, Some, None, List, length, take, IsTrue, OnOk, IfOk, IfErr, codes};
+ghost use Rattle.std.specs.Prelude.{◌≡◌, ℕ, ◌+◌, ◌≤◌, ◌++◌, Option, Some, None, List, length, IsTrue, IfOk, IfErr, codes};
 ghost use Rattle.fb_frame.specs.NameText.{IsName};
-ghost use Rattle.wire_told.specs.Places.{IsKept};
-ghost use Rattle.wire_told.specs.Told.{Idle};
-ghost use Rattle.fb_top.specs.Asking.{ValidPeer, Why, IsCut, NeverRefuses, NoneRefuses, told_text};
+ghost use Rattle.fb_top.specs.Asking.{Fit, Moves, IsStopped, NeverRefuses, NoneRefuses, told_text};
 ghost use Rattle.fb_top.specs.Questions.{slots_read, kind_read, kind_question, LearnsSlots, LearnsKind, LearnsMax};
 
 use crate::asking::{AskFail, Told, ask_variable};
@@ -11,6 +9,7 @@ use crate::size::read_download_size;
 use fb_frame::name::Name;
 use fb_frame::word::Word;
 use fb_link::port::Port;
+use fb_link::states::{Lost, Ready};
 use fb_message::line::Line;
 
 /// Whether the text of slot-count tells of slots.
@@ -47,24 +46,21 @@ fn line_of(told: Told) -> Line {
 
 /// Asks whether the device has slots.
 #[tactic(auto, using(crate::proofs::QuestionLemmas::questions))]
-pub fn ask_slots<P: Port>(port: &mut P) -> Result<bool, AskFail>
-    ghost spare: { ℕ }
-    requires up { IsTrue (P.up port.old) }
-    requires idle { Idle (4104 + spare) (P.peer port.old) }
-    requires valid { ValidPeer (P.peer port.old) }
-    ensures up { OnOk result (IsTrue (P.up port.new)) }
-    ensures learns { IfOk result (λ slotted. LearnsSlots (P.peer port.old) (P.peer port.new) slotted) }
-    ensures idle { OnOk result (Idle spare (P.peer port.new)) }
-    ensures valid { OnOk result (ValidPeer (P.peer port.new)) }
-    ensures why { IfErr result (λ e. Why (NeverRefuses (P.peer port.old)) (IsCut (P.faults port.old) (P.faults port.new) (P.ends port.old) (P.ends port.new)) (P.peer port.old) e) }
-    ensures kept { IsKept (P.aimed port.old) (P.aimed port.new) (P.last port.old) (P.last port.new) (P.stands port.old) (P.stands port.new) }
-    ensures later { P.faults port.old ≤ P.faults port.new }
-    ensures ends { P.ends port.old ≤ P.ends port.new }
+pub fn ask_slots<P: Port>(ready: Ready<P>) -> Result<(Ready<P>, bool), (Lost<P>, AskFail)>
+    requires fit { Fit 4104 (P.told ready).peer }
+    ensures same { IfOk result (λ r. P.lent r.0 ≡ P.lent ready) }
+    ensures same_lost { IfErr result (λ e. P.lent e.0 ≡ P.lent ready) }
+    ensures moves { IfOk result (λ r. Moves (P.told ready) (P.told r.0)) }
+    ensures learns { IfOk result (λ r. LearnsSlots (P.told ready).peer (P.told r.0).peer r.1) }
+    ensures stopped { IfErr result (λ e. IsStopped NeverRefuses (P.told ready) (P.told e.0) e.1) }
 {
-    let told = ask_variable(port, b"slot-count")?;
+    let (ready, told) = match ask_variable(ready, b"slot-count") {
+        Ok(answer) => answer,
+        Err(stop) => return Err(stop),
+    };
     match slots_read(&told) {
-        Some(slotted) => Ok(slotted),
-        None => Err(AskFail::Unknown(line_of(told))),
+        Some(slotted) => Ok((ready, slotted)),
+        None => Err((ready.hang_up(), AskFail::Unknown(line_of(told)))),
     }
 }
 
@@ -78,52 +74,48 @@ fn kind_question(name: &Name) -> Word
 
 /// Asks whether the partition of this name is logical; None where the device has none of the name.
 #[tactic(auto, using(crate::proofs::QuestionLemmas::questions))]
-pub fn ask_kind<P: Port>(port: &mut P, name: &Name) -> Result<Option<bool>, AskFail>
-    ghost spare: { ℕ }
-    requires up { IsTrue (P.up port.old) }
-    requires idle { Idle (4104 + spare) (P.peer port.old) }
-    requires valid { ValidPeer (P.peer port.old) }
-    ensures up { OnOk result (IsTrue (P.up port.new)) }
-    ensures learns { IfOk result (λ kind. LearnsKind (P.peer port.old) (P.peer port.new) name.now kind) }
-    ensures idle { OnOk result (Idle spare (P.peer port.new)) }
-    ensures valid { OnOk result (ValidPeer (P.peer port.new)) }
-    ensures why { IfErr result (λ e. Why (NeverRefuses (P.peer port.old)) (IsCut (P.faults port.old) (P.faults port.new) (P.ends port.old) (P.ends port.new)) (P.peer port.old) e) }
-    ensures kept { IsKept (P.aimed port.old) (P.aimed port.new) (P.last port.old) (P.last port.new) (P.stands port.old) (P.stands port.new) }
-    ensures later { P.faults port.old ≤ P.faults port.new }
-    ensures ends { P.ends port.old ≤ P.ends port.new }
+pub fn ask_kind<P: Port>(
+    ready: Ready<P>,
+    name: &Name,
+) -> Result<(Ready<P>, Option<bool>), (Lost<P>, AskFail)>
+    requires fit { Fit 4104 (P.told ready).peer }
+    ensures same { IfOk result (λ r. P.lent r.0 ≡ P.lent ready) }
+    ensures same_lost { IfErr result (λ e. P.lent e.0 ≡ P.lent ready) }
+    ensures moves { IfOk result (λ r. Moves (P.told ready) (P.told r.0)) }
+    ensures learns { IfOk result (λ r. LearnsKind (P.told ready).peer (P.told r.0).peer name.now r.1) }
+    ensures stopped { IfErr result (λ e. IsStopped NeverRefuses (P.told ready) (P.told e.0) e.1) }
 {
     let question = kind_question(name);
-    let told = ask_variable(port, question.bytes())?;
+    let (ready, told) = match ask_variable(ready, question.bytes()) {
+        Ok(answer) => answer,
+        Err(stop) => return Err(stop),
+    };
     match kind_read(&told) {
-        Some(kind) => Ok(kind),
-        None => Err(AskFail::Unknown(line_of(told))),
+        Some(kind) => Ok((ready, kind)),
+        None => Err((ready.hang_up(), AskFail::Unknown(line_of(told)))),
     }
 }
 
 /// Asks how many bytes the device takes in one download.
 #[tactic(auto, using(crate::proofs::QuestionLemmas::sizes))]
-pub fn ask_max<P: Port>(port: &mut P) -> Result<u64, AskFail>
-    ghost spare: { ℕ }
-    requires up { IsTrue (P.up port.old) }
-    requires idle { Idle (4104 + spare) (P.peer port.old) }
-    requires valid { ValidPeer (P.peer port.old) }
-    ensures up { OnOk result (IsTrue (P.up port.new)) }
-    ensures learns { IfOk result (λ most. LearnsMax (P.peer port.old) (P.peer port.new) most) }
-    ensures idle { OnOk result (Idle spare (P.peer port.new)) }
-    ensures valid { OnOk result (ValidPeer (P.peer port.new)) }
-    ensures why { IfErr result (λ e. Why (NoneRefuses (P.peer port.old)) (IsCut (P.faults port.old) (P.faults port.new) (P.ends port.old) (P.ends port.new)) (P.peer port.old) e) }
-    ensures kept { IsKept (P.aimed port.old) (P.aimed port.new) (P.last port.old) (P.last port.new) (P.stands port.old) (P.stands port.new) }
-    ensures later { P.faults port.old ≤ P.faults port.new }
-    ensures ends { P.ends port.old ≤ P.ends port.new }
+pub fn ask_max<P: Port>(ready: Ready<P>) -> Result<(Ready<P>, u64), (Lost<P>, AskFail)>
+    requires fit { Fit 4104 (P.told ready).peer }
+    ensures same { IfOk result (λ r. P.lent r.0 ≡ P.lent ready) }
+    ensures same_lost { IfErr result (λ e. P.lent e.0 ≡ P.lent ready) }
+    ensures moves { IfOk result (λ r. Moves (P.told ready) (P.told r.0)) }
+    ensures learns { IfOk result (λ r. LearnsMax (P.told ready).peer (P.told r.0).peer r.1) }
+    ensures stopped { IfErr result (λ e.
+        IsStopped (NoneRefuses (P.told ready)) (P.told ready) (P.told e.0) e.1) }
 {
-    match ask_variable(port, b"max-download-size") {
-        Ok(Told::Text(line)) => match read_download_size(line.bytes()) {
-            Some(most) => Ok(most),
-            None => Err(AskFail::Unknown(line)),
+    let (ready, told) = match ask_variable(ready, b"max-download-size") {
+        Ok(answer) => answer,
+        Err(stop) => return Err(stop),
+    };
+    match told {
+        Told::Text(line) => match read_download_size(line.bytes()) {
+            Some(most) => Ok((ready, most)),
+            None => Err((ready.hang_up(), AskFail::Unknown(line))),
         },
-        Ok(Told::Refusal(text)) => Err(AskFail::Refused(text)),
-        Err(AskFail::Link) => Err(AskFail::Link),
-        Err(AskFail::Unknown(kept)) => Err(AskFail::Unknown(kept)),
-        Err(AskFail::Refused(text)) => Err(AskFail::Refused(text)),
+        Told::Refusal(text) => Err((ready.hang_up(), AskFail::Refused(text))),
     }
 }

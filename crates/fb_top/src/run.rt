@@ -1,23 +1,21 @@
-ghost use Rattle.std.specs.Prelude.{◌≡◌, ◌⊎◌, ℕ, ◌+◌, ◌*◌, ◌≤◌, ◌^◌, List, Ok, Err, None, length, IsTrue, OnOk, IfOk, IfErr};
+ghost use Rattle.std.specs.Prelude.{◌≡◌, ℕ, ◌+◌, ◌*◌, ◌≤◌, List, Option, Ok, length, IsTrue, IsFalse, OnOk, OnErr, IfOk, IfErr};
 ghost use Rattle.fb_frame.specs.Causes.{Rose};
 ghost use Rattle.fb_frame.specs.Sinks.{Grew};
-ghost use Rattle.wire_told.specs.Places.{IsKept};
-ghost use Rattle.wire_told.specs.Told.{Idle};
-ghost use Rattle.fb_top.specs.Asking.{ValidPeer, IsCut, NoneRefuses};
-ghost use Rattle.fb_top.specs.Flashing.{Serves};
-ghost use Rattle.fb_top.specs.Printed.{flash_line, step_lines};
+ghost use Rattle.fb_link.specs.Seen.{seen};
+ghost use Rattle.fb_top.specs.Asking.{Fit, Moves};
+ghost use Rattle.fb_top.specs.StepLines.{flash_line, step_lines};
 ghost use Rattle.fb_top.specs.Products.{IsRawImage};
-ghost use Rattle.fb_top.specs.Runs.{product_value, two_steps, IsAimed, Planned, Installed, WhyRun, run_error, Ran, Stuck, NoPlan, Unplanned, Unrun, IsUnsaid, Quiet};
+ghost use Rattle.fb_top.specs.Runs.{product_value, two_steps, IsAimed, Decided, PlansBoth, Installed, StopsRun, run_error};
 
-use crate::asking::{AskFail, kept};
+use crate::asking::{AskFail, failure};
 use crate::flashing::{flash, reboot};
 use crate::plan::PlanKind;
 use crate::product::Product;
 use crate::questions::{ask_kind, ask_max, ask_slots};
 use fb_frame::name::Name;
 use fb_frame::sink::Sink;
-use fb_link::open::{OpenError, open};
 use fb_link::port::Port;
+use fb_link::states::{Lost, Ready};
 use fb_message::line::Line;
 use itoa::Buffer;
 use std::alloc::{AllocError, Global};
@@ -50,34 +48,47 @@ fn stopped(e: AskFail) -> RunError
 
 /// Asks what the plan rests on: that the device has no slots, and a physical partition of the name.
 #[tactic(auto, using(crate::proofs::RunLemmas::decides))]
-fn decide<P: Port>(port: &mut P, product: &Product) -> Result<(), RunError>
-    ghost spare: { ℕ }
-    requires up { IsTrue (P.up port.old) }
-    requires idle { Idle (12312 + spare) (P.peer port.old) }
-    requires valid { ValidPeer (P.peer port.old) }
-    ensures up { OnOk result (IsTrue (P.up port.new)) }
-    ensures planned { OnOk result (Planned (product_value product.now) (Ok (two_steps (product_value product.now))) (P.peer port.old) (P.peer port.new)) }
-    ensures idle { OnOk result (Idle spare (P.peer port.new)) }
-    ensures valid { OnOk result (ValidPeer (P.peer port.new)) }
-    ensures why { IfErr result (λ e. WhyRun (NoneRefuses (P.peer port.old)) (Unplanned (product_value product.now) (P.peer port.old) (P.peer port.new)) (IsCut (P.faults port.old) (P.faults port.new) (P.ends port.old) (P.ends port.new)) ⊥ (P.peer port.old) e) }
-    ensures kept { IsKept (P.aimed port.old) (P.aimed port.new) (P.last port.old) (P.last port.new) (P.stands port.old) (P.stands port.new) }
-    ensures later { P.faults port.old ≤ P.faults port.new }
-    ensures ends { P.ends port.old ≤ P.ends port.new }
+fn decide<P: Port>(ready: Ready<P>, product: &Product) -> Result<Ready<P>, (Lost<P>, RunError)>
+    requires fit { Fit 12312 (P.told ready).peer }
+    ensures same { IfOk result (λ r. P.lent r ≡ P.lent ready) }
+    ensures same_lost { IfErr result (λ e. P.lent e.0 ≡ P.lent ready) }
+    ensures moves { IfOk result (λ r. Moves (P.told ready) (P.told r)) }
+    ensures decided { IfOk result (λ r. Decided (product_value product.now)
+        (Ok (two_steps (product_value product.now))) (P.told ready).peer (P.told r).peer) }
+    ensures moves_lost { IfErr result (λ e. Moves (P.told ready) (P.told e.0)) }
+    ensures down { IfErr result (λ e. IsFalse (P.told e.0).up) }
+    ensures unsaid { IfErr result (λ e. e.1 ≡ RunError.Output → ⊥) }
+    ensures stops { IfErr result (λ e. (text : Option (List ℕ)) →
+        StopsRun (product_value product.now) (seen (P.told ready) text) (seen (P.told e.0) text) e.1) }
 {
-    match ask_slots(port) {
-        Ok(false) => {}
-        Ok(true) => return Err(RunError::Plan(0, PlanKind::NotBuilt)),
-        Err(e) => return Err(stopped(e)),
+    let (ready, slotted) = match ask_slots(ready) {
+        Ok(answer) => answer,
+        Err(stop) => {
+            let (lost, fail) = stop;
+            return Err((lost, stopped(fail)));
+        }
+    };
+    if slotted {
+        return Err((ready.hang_up(), RunError::Plan(0, PlanKind::NotBuilt)));
     }
-    match ask_max(port) {
-        Ok(_) => {}
-        Err(e) => return Err(stopped(e)),
-    }
-    match ask_kind(port, &product.name) {
-        Ok(Some(false)) => Ok(()),
-        Ok(Some(true)) => Err(RunError::Plan(2, PlanKind::NotBuilt)),
-        Ok(None) => Err(RunError::Plan(2, PlanKind::NoPartition)),
-        Err(e) => Err(stopped(e)),
+    let (ready, _most) = match ask_max(ready) {
+        Ok(answer) => answer,
+        Err(stop) => {
+            let (lost, fail) = stop;
+            return Err((lost, stopped(fail)));
+        }
+    };
+    let (ready, kind) = match ask_kind(ready, &product.name) {
+        Ok(answer) => answer,
+        Err(stop) => {
+            let (lost, fail) = stop;
+            return Err((lost, stopped(fail)));
+        }
+    };
+    match kind {
+        Some(false) => Ok(ready),
+        Some(true) => Err((ready.hang_up(), RunError::Plan(2, PlanKind::NotBuilt))),
+        None => Err((ready.hang_up(), RunError::Plan(2, PlanKind::NoPartition))),
     }
 }
 
@@ -95,21 +106,14 @@ fn flash_line(alloc: Global, name: &Name, length: usize) -> Result<Vec<u8>, Allo
     Ok(line)
 }
 
-/// Puts the line that says that a flash was acknowledged.
-fn say_flash<S: Sink>(
-    alloc: Global,
-    name: &Name,
-    length: usize,
-    out: &mut S,
-) -> Result<(), RunError>
-    ensures said { OnOk result (Grew (S.text out.old) (S.text out.new) (flash_line name.now length)) }
-    ensures why { IfErr result (λ e. IsUnsaid (S.faults out.old) (S.faults out.new) e) }
+/// Puts a line.
+fn say<S: Sink>(line: &[u8], out: &mut S) -> Result<(), RunError>
+    ensures said { OnOk result (Grew (S.text out.old) (S.text out.new) line.now) }
+    ensures output { IfErr result (λ e. e ≡ RunError.Output) }
+    ensures cause { OnErr result (Rose (S.faults out.old) (S.faults out.new)) }
     ensures later { S.faults out.old ≤ S.faults out.new }
 {
-    let Ok(line) = flash_line(alloc, name, length) else {
-        return Err(RunError::Memory);
-    };
-    match out.put(line.as_slice()) {
+    match out.put(line) {
         Ok(()) => Ok(()),
         Err(_) => Err(RunError::Output),
     }
@@ -119,75 +123,125 @@ fn say_flash<S: Sink>(
 #[tactic(auto, using(crate::proofs::RunLemmas::steps))]
 fn run_steps<P: Port, S: Sink>(
     alloc: Global,
-    port: &mut P,
+    ready: Ready<P>,
     product: &Product,
     out: &mut S,
-) -> Result<(), RunError>
-    requires up { IsTrue (P.up port.old) }
-    requires idle { Idle (16416 + 9 * length product.now.image) (P.peer port.old) }
-    requires valid { ValidPeer (P.peer port.old) }
-    requires serves { Serves (P.peer port.old) }
+) -> Result<Lost<P>, (Lost<P>, RunError)>
     requires raw { IsRawImage product.now.image }
-    ensures ran { OnOk result (Ran (two_steps (product_value product.now)) (P.peer port.old) (P.peer port.new)) }
-    ensures why { IfErr result (λ e. WhyRun (Stuck (two_steps (product_value product.now)) (P.faults port.old) (P.faults port.new) (P.peer port.old) (P.peer port.new)) NoPlan (IsCut (P.faults port.old) (P.faults port.new) (P.ends port.old) (P.ends port.new)) (Rose (S.faults out.old) (S.faults out.new)) (P.peer port.old) e) }
-    ensures kept { IsKept (P.aimed port.old) (P.aimed port.new) (P.last port.old) (P.last port.new) (P.stands port.old) (P.stands port.new) }
-    ensures later { P.faults port.old ≤ P.faults port.new }
-    ensures ends { P.ends port.old ≤ P.ends port.new }
-    ensures said { OnOk result (Grew (S.text out.old) (S.text out.new) (step_lines product.now.name (length product.now.image))) }
-    ensures quiet { IfErr result (λ e. Quiet (S.text out.old) (S.text out.new) (Rose (P.faults port.old) (P.faults port.new)) (P.peer port.old ≡ None) e) }
+    requires fit { Fit (12312 + 9 * length product.now.image) (P.told ready).peer }
+    requires planned { PlansBoth (product_value product.now) (P.told ready).peer }
+    ensures same { IfOk result (λ l. P.lent l ≡ P.lent ready) }
+    ensures same_lost { IfErr result (λ e. P.lent e.0 ≡ P.lent ready) }
+    ensures moves { IfOk result (λ l. Moves (P.told ready) (P.told l)) }
+    ensures down { IfOk result (λ l. IsFalse (P.told l).up) }
+    ensures installed { IfOk result (λ l.
+        Installed (product_value product.now) (P.told ready).peer (P.told l).peer) }
+    ensures said { OnOk result (Grew (S.text out.old) (S.text out.new)
+        (step_lines product.now.name (length product.now.image))) }
+    ensures moves_lost { IfErr result (λ e. Moves (P.told ready) (P.told e.0)) }
+    ensures down_lost { IfErr result (λ e. IsFalse (P.told e.0).up) }
+    ensures stops { IfErr result (λ e. StopsRun (product_value product.now)
+        (seen (P.told ready) (S.text out.old)) (seen (P.told e.0) (S.text out.new)) e.1) }
+    ensures unput { IfErr result (λ e. e.1 ≡ RunError.Output → Rose (S.faults out.old) (S.faults out.new)) }
     ensures put { S.faults out.old ≤ S.faults out.new }
 {
     let image = product.image.as_slice();
-    match flash(port, &product.name, image) {
+    let ready = match flash(ready, &product.name, image) {
+        Ok(ready) => ready,
+        Err(stop) => {
+            let (lost, unflashed) = stop;
+            return Err((lost, stopped(unflashed)));
+        }
+    };
+    let Ok(line) = flash_line(alloc, &product.name, image.len()) else {
+        return Err((ready.hang_up(), RunError::Memory));
+    };
+    match say(line.as_slice(), out) {
         Ok(()) => {}
-        Err(e) => return Err(stopped(e)),
+        Err(e) => return Err((ready.hang_up(), e)),
     }
-    match say_flash(alloc, &product.name, image.len(), out) {
-        Ok(()) => {}
-        Err(e) => return Err(e),
-    }
-    match reboot(port) {
-        Ok(()) => {}
-        Err(e) => return Err(stopped(e)),
-    }
-    match out.put(b"reboot system\n") {
-        Ok(()) => Ok(()),
-        Err(_) => Err(RunError::Output),
+    let lost = match reboot(ready) {
+        Ok(lost) => lost,
+        Err(stop) => {
+            let (lost, fail) = stop;
+            return Err((lost, stopped(fail)));
+        }
+    };
+    match say(b"reboot system\n", out) {
+        Ok(()) => Ok(lost),
+        Err(e) => Err((lost, e)),
     }
 }
 
-/// Installs a product on the device that the port is aimed at: connects, asks, plans and runs.
+/// Connects, asks, plans and runs. Gives the port back, with no connection up.
 #[tactic(auto, using(crate::proofs::RunLemmas::drives))]
+fn install<P: Port, S: Sink>(
+    alloc: Global,
+    port: P,
+    product: &Product,
+    out: &mut S,
+) -> (P, Result<(), RunError>)
+    requires aimed { IsTrue (P.told port).aimed }
+    requires told { IsAimed (P.told port).peer }
+    requires raw { IsRawImage product.now.image }
+    ensures same { P.lent result.0 ≡ P.lent port }
+    ensures moves { Moves (P.told port) (P.told result.0) }
+    ensures down { IsFalse (P.told result.0).up }
+    ensures installed { OnOk result.1
+        (Installed (product_value product.now) (P.told port).peer (P.told result.0).peer) }
+    ensures said { OnOk result.1 (Grew (S.text out.old) (S.text out.new)
+        (step_lines product.now.name (length product.now.image))) }
+    ensures stops { IfErr result.1 (λ e. StopsRun (product_value product.now)
+        (seen (P.told port) (S.text out.old)) (seen (P.told result.0) (S.text out.new)) e) }
+    ensures unput { IfErr result.1 (λ e. e ≡ RunError.Output → Rose (S.faults out.old) (S.faults out.new)) }
+    ensures put { S.faults out.old ≤ S.faults out.new }
+{
+    let ready = match Lost::new(port).connect() {
+        Ok(ready) => ready,
+        Err(broken) => {
+            let (lost, error) = broken;
+            return (lost.into_port(), Err(stopped(failure(error))));
+        }
+    };
+    let ready = match decide(ready, product) {
+        Ok(ready) => ready,
+        Err(stop) => {
+            let (lost, error) = stop;
+            return (lost.into_port(), Err(error));
+        }
+    };
+    match run_steps(alloc, ready, product, out) {
+        Ok(lost) => (lost.into_port(), Ok(())),
+        Err(stop) => {
+            let (lost, error) = stop;
+            (lost.into_port(), Err(error))
+        }
+    }
+}
+
+/// Installs a product on the device that the port is aimed at: connects, asks, plans and runs, and hangs up.
 pub fn drive<P: Port, S: Sink>(
     alloc: Global,
     port: &mut P,
     product: &Product,
     out: &mut S,
 ) -> Result<(), RunError>
-    requires aimed { IsTrue (P.aimed port.old) }
-    requires told { IsAimed (P.peer port.old) }
+    requires aimed { IsTrue (P.told port.old).aimed }
+    requires told { IsAimed (P.told port.old).peer }
     requires raw { IsRawImage product.now.image }
-    ensures installed { OnOk result (Installed (product_value product.now) (P.peer port.old) (P.peer port.new)) }
-    ensures why { IfErr result (λ e. WhyRun (Unrun (product_value product.now) (P.faults port.old) (P.faults port.new) (P.peer port.old) (P.peer port.new)) (Unplanned (product_value product.now) (P.peer port.old) (P.peer port.new)) (IsCut (P.faults port.old) (P.faults port.new) (P.ends port.old) (P.ends port.new)) (Rose (S.faults out.old) (S.faults out.new)) (P.peer port.old) e) }
-    ensures kept { IsKept (P.aimed port.old) (P.aimed port.new) (P.last port.old) (P.last port.new) (P.stands port.old) (P.stands port.new) }
-    ensures later { P.faults port.old ≤ P.faults port.new }
-    ensures ends { P.ends port.old ≤ P.ends port.new }
-    ensures said { OnOk result (Grew (S.text out.old) (S.text out.new) (step_lines product.now.name (length product.now.image))) }
-    ensures quiet { IfErr result (λ e. Quiet (S.text out.old) (S.text out.new) (Rose (P.faults port.old) (P.faults port.new)) (P.peer port.old ≡ None) e) }
+    ensures same { P.lent port.new ≡ P.lent port.old }
+    ensures moves { Moves (P.told port.old) (P.told port.new) }
+    ensures down { IsFalse (P.told port.new).up }
+    ensures installed { OnOk result
+        (Installed (product_value product.now) (P.told port.old).peer (P.told port.new).peer) }
+    ensures said { OnOk result (Grew (S.text out.old) (S.text out.new)
+        (step_lines product.now.name (length product.now.image))) }
+    ensures stops { IfErr result (λ e. StopsRun (product_value product.now)
+        (seen (P.told port.old) (S.text out.old)) (seen (P.told port.new) (S.text out.new)) e) }
+    ensures unput { IfErr result (λ e. e ≡ RunError.Output → Rose (S.faults out.old) (S.faults out.new)) }
     ensures put { S.faults out.old ≤ S.faults out.new }
 {
-    match open(port) {
-        Ok(()) => {}
-        Err(OpenError::Link) => return Err(RunError::Link),
-        Err(OpenError::Ended) => return Err(RunError::Link),
-        Err(OpenError::BadHandshake(four)) => return Err(RunError::Unknown(kept(&four))),
-    }
-    match decide(port, product) {
-        Ok(()) => {}
-        Err(e) => return Err(e),
-    }
-    match run_steps(alloc, port, product, out) {
-        Ok(()) => Ok(()),
-        Err(e) => Err(e),
-    }
+    let (port, outcome) = install(alloc, &mut *port, product, out);
+    let _port = Lost::new(port).into_port();
+    outcome
 }

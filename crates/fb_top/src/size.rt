@@ -1,7 +1,6 @@
-ghost use Rattle.std.specs.Prelude.{◌≡◌, ℕ, ◌<◌, ◌≤◌, ◌^◌, Option, Some, length, option_copied};
-ghost use Rattle.std.specs.Str.Parse.{IsNumeral, digits_value};
-ghost use Rattle.fb_frame.specs.Numbers.{size_text};
-ghost use Rattle.fb_top.specs.SizeText.{hex_digits};
+ghost use Rattle.std.specs.Prelude.{◌≡◌, Option, option_copied};
+ghost use Rattle.std.specs.List.{list_all};
+ghost use Rattle.fb_top.specs.SizeText.{hex_digits, is_hex, hex_number, size_read, download_size};
 
 use fb_frame::number::read_dec;
 
@@ -13,19 +12,34 @@ const LEAST_DOWNLOAD: u64 = 131_072;
 
 const MOST_DOWNLOAD: u64 = 268_435_456;
 
+fn is_hex(b: u8) -> bool
+    ensures { result ≡ is_hex b }
+{
+    matches!(b, b'0'..=b'9' | b'A'..=b'F' | b'a'..=b'f')
+}
+
+fn are_hex(digits: &[u8]) -> bool
+    ensures { result ≡ list_all is_hex digits.now }
+{
+    digits.iter().all(|b| is_hex(*b))
+}
+
 /// The number of 1 to 16 hexadecimal digits of either case.
 #[tactic(auto, using(crate::proofs::SizeLemmas::numerals))]
 fn read_hex(digits: &[u8]) -> Option<u64>
-    ensures { IsNumeral 16 digits.now → length digits.now ≤ 16 → digits_value 16 digits.now < 2 ^ 64 → result ≡ Some (digits_value 16 digits.now) }
+    ensures { result ≡ hex_number digits.now }
 {
-    if digits.len() > MOST_DIGITS || digits.starts_with(b"+") {
+    if digits.is_empty() || digits.len() > MOST_DIGITS || !are_hex(digits) {
         return None;
     }
-    let text = str::from_utf8(digits).ok()?;
+    let text = match str::from_utf8(digits) {
+        Ok(text) => text,
+        Err(_) => unreachable!(),
+    };
     u64::from_str_radix(text, 16).ok()
 }
 
-/// The digits behind `0x`.
+/// The digits after `0x`.
 fn hex_digits(text: &[u8]) -> Option<&[u8]>
     ensures { option_copied result ≡ hex_digits text.now }
 {
@@ -33,9 +47,8 @@ fn hex_digits(text: &[u8]) -> Option<&[u8]>
 }
 
 /// The number that a text tells: `0x` and hexadecimal digits, or decimal.
-#[tactic(auto, using(crate::proofs::SizeLemmas::sizes))]
 fn read_size(text: &[u8]) -> Option<u64>
-    ensures { (n : ℕ) → n ≤ 268435456 → text.now ≡ size_text n → result ≡ Some n }
+    ensures { result ≡ size_read text.now }
 {
     match hex_digits(text) {
         Some(digits) => read_hex(digits),
@@ -46,7 +59,7 @@ fn read_size(text: &[u8]) -> Option<u64>
 /// How many bytes a device takes in one download, by the text of max-download-size. None of a text
 /// that tells fewer than 131,072, or no number.
 pub fn read_download_size(text: &[u8]) -> Option<u64>
-    ensures { (n : ℕ) → 131072 ≤ n → n ≤ 268435456 → text.now ≡ size_text n → result ≡ Some n }
+    ensures { result ≡ download_size text.now }
 {
     match read_size(text) {
         Some(n) if n >= LEAST_DOWNLOAD => Some(n.min(MOST_DOWNLOAD)),

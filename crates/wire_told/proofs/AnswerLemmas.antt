@@ -7,7 +7,6 @@ use Rattle.fb_frame.specs.Framing.{head, frame}
 use Rattle.fb_message.specs.declared.reply.Reply.{Reply}
 use Rattle.fb_message.specs.declared.reply.Reply.TheVariants.{Okay, Fail, Info, Text, Load}
 use Rattle.fb_message.specs.ReplyText.{reply_bytes}
-use Rattle.dev_model.specs.declared.step.Step.TheVariants as step
 use Rattle.wire_model.specs.Says.{Said}
 use Rattle.wire_model.specs.Wire.{Wire, Phase, Command, Data, with_replies, received, awaited, answered, paid}
 use Rattle.wire_told.specs.Told.{disk_fault, done}

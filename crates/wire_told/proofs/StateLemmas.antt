@@ -215,28 +215,32 @@ sending-by true spare count p w u e i valid room said state =
     state ∙ (ap (λ s. record (answered s w) { rest = []; taken = w.taken + length (frame p) }) said ∙ ap (λ (x : Wire). record x { rest = []; taken = w.taken + length (frame p) }) (load-answered true count w e)) in
     let o : reply_frames (Load count ∷ []) ++ u.out ≡ reply_frames (Load count ∷ []) ++ reply_frames (Okay [] ∷ []) =
     ap (λ (x : Wire). x.out) all ∙ ap (λ t. (t ++ reply_frames (Load count ∷ [])) ++ reply_frames (Okay [] ∷ [])) i.quiet in
-    let P : Dev → Type 0 = λ d. IsValid d in
-    (record {
-      running = ap (λ (x : Wire). x.closed) all;
-      rest = ap (λ (x : Wire). x.rest) all;
-      valid = subst P (sym (ap (λ (x : Wire). x.device) all)) valid;
-      bounded = omega (arith, room, ap (λ (x : Wire). x.taken) all);
-      due = inr (n, record { got = []; loaded = ap (λ (x : Wire). x.loaded) all; commanding = ap (λ (x : Wire). x.phase) all; okay = append-same (reply_frames (Load count ∷ [])) u.out (reply_frames (Okay [] ∷ [])) o });
-    }, ap got_of all)
+    let P : Dev → Type 0 = λ d. IsValid d in (
+      record {
+        running = ap (λ (x : Wire). x.closed) all;
+        rest = ap (λ (x : Wire). x.rest) all;
+        valid = subst P (sym (ap (λ (x : Wire). x.device) all)) valid;
+        bounded = omega (arith, room, ap (λ (x : Wire). x.taken) all);
+        due = inr (n, record { got = []; loaded = ap (λ (x : Wire). x.loaded) all; commanding = ap (λ (x : Wire). x.phase) all; okay = append-same (reply_frames (Load count ∷ [])) u.out (reply_frames (Okay [] ∷ [])) o });
+      },
+      ap got_of all,
+    )
 sending-by false spare count p w u e i valid room said state =
     let n = some-count count e in
     let all : record u { out = reply_frames (Load count ∷ []) ++ u.out } ≡ record (record (with-load count w) { phase = Data count [] }) { rest = []; taken = w.taken + length (frame p) } =
     state ∙ (ap (λ s. record (answered s w) { rest = []; taken = w.taken + length (frame p) }) said ∙ ap (λ (x : Wire). record x { rest = []; taken = w.taken + length (frame p) }) (load-answered false count w e)) in
     let o : reply_frames (Load count ∷ []) ++ u.out ≡ reply_frames (Load count ∷ []) =
     ap (λ (x : Wire). x.out) all ∙ ap (λ t. t ++ reply_frames (Load count ∷ [])) i.quiet in
-    let P : Dev → Type 0 = λ d. IsValid d in
-    (record {
-      running = ap (λ (x : Wire). x.closed) all;
-      rest = ap (λ (x : Wire). x.rest) all;
-      valid = subst P (sym (ap (λ (x : Wire). x.device) all)) valid;
-      bounded = omega (arith, room, ap (λ (x : Wire). x.taken) all);
-      due = inl (n, record { count = count; got = []; receiving = ap (λ (x : Wire). x.phase) all; all = omega arith; quiet = nothing-left (reply_frames (Load count ∷ [])) u.out o });
-    }, ap got_of all)
+    let P : Dev → Type 0 = λ d. IsValid d in (
+      record {
+        running = ap (λ (x : Wire). x.closed) all;
+        rest = ap (λ (x : Wire). x.rest) all;
+        valid = subst P (sym (ap (λ (x : Wire). x.device) all)) valid;
+        bounded = omega (arith, room, ap (λ (x : Wire). x.taken) all);
+        due = inl (n, record { count = count; got = []; receiving = ap (λ (x : Wire). x.phase) all; all = omega arith; quiet = nothing-left (reply_frames (Load count ∷ [])) u.out o });
+      },
+      ap got_of all,
+    )
 
 load-not-fail : (count : ℕ) (text : List ℕ) → Load count ≡ Fail text → ⊥
 load-not-fail count text e = cc

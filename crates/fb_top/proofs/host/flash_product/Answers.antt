@@ -1,15 +1,8 @@
-use Rattle.fb_top.proofs.HostLemmas.{installs-on, hung-on, is-done}
-use Rattle.wire_told.specs.Places.{ImageAt}
+use Rattle.fb_top.specs.HostWords.{text_of}
+use Rattle.fb_top.specs.Runs.{product_value}
+use Rattle.fb_top.proofs.HostLemmas.{Stopped-device}
 use Rattle.fb_top.proofs.host.flash_product.Goals as goal
 
-pub returns-in-Ok-outcome-clause-success : goal.returns-in-Ok-outcome-clause-success
-returns-in-Ok-outcome-clause-success g c =
-    let stands = g.P.Port.stands c.args.port.now in
-    let place = ImageAt c.args.words.now.image.now in
-    hung-on stands place c.args.product.now (g.P.Port.peer c.drive-outcome.new.port) (g.P.Port.peer c.hang_up.new.self) c.hang_up.ensures.left
-    (installs-on stands place c.args.product.now (g.P.Port.peer c.aim.new.self) (g.P.Port.peer c.drive-outcome.new.port) c.in-Ok.ensures.aims c.in-Ok-outcome.ensures.installed)
-
-pub returns-in-Ok-outcome-clause-done : goal.returns-in-Ok-outcome-clause-done
-returns-in-Ok-outcome-clause-done g c =
-    is-done (g.P.Port.stands c.args.port.now) (ImageAt c.args.words.now.image.now) c.args.product.now (g.P.Port.peer c.aim.new.self) (g.P.Port.peer c.drive-outcome.new.port) (g.S.Sink.text c.args.out.now) (g.S.Sink.text c.drive-outcome.new.out)
-    c.in-Ok.ensures.aims c.in-Ok-outcome.ensures.installed c.in-Ok-outcome.ensures.said
+pub returns-in-Err-BadDevice-clause-stopped : goal.returns-in-Err-BadDevice-clause-stopped
+returns-in-Err-BadDevice-clause-stopped g c = λ f h.
+    Stopped-device (product_value c.args.product.now) (text_of c.args.words.now) f h _ _ _ _ c.in-Err-BadDevice.ensures.astray (c.in-Err-BadDevice.ensures.bad _ (let whole = c.in-Err-BadDevice.field-0-is in let part = c.in-Err-BadDevice.kind-is in cc))

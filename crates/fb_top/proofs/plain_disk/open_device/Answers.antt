@@ -16,7 +16,7 @@ use Rattle.fb_top.proofs.plain_disk.open_device.Goals as goal
 
 pub returns-in-Ok-clause-aims : goal.returns-in-Ok-clause-aims
 returns-in-Ok-clause-aims g c =
-    let files = g.K.Disk.files c.args.disk.now in
+    let files = (g.K.Disk.told c.args.disk.now).files in
     let bytes = c.in_ok-image.image.items in
     let dev = plain_dev c.in-Ok.layout c.in-Ok.locked Bootloader (drop 12288 bytes) in
     let size : length bytes ≡ 12288 + c.in-Ok.layout.size = sym (ap length c.deref.ensures.value) ∙ c.in-Ok.ensures.size in
@@ -27,7 +27,7 @@ returns-in-Ok-clause-aims g c =
 
 pub returns-in-Err-clause-bad : goal.returns-in-Err-clause-bad
 returns-in-Err-clause-bad g c = λ bad e.
-    let files = g.K.Disk.files c.args.disk.now in
+    let files = (g.K.Disk.told c.args.disk.now).files in
     let same : c.in-Err.bad ≡ bad = cc in
     subst (λ (b : BadImage). IsBad (plain_stands files) (ImageAt c.args.path.now) b) same
     (bad_at files c.args.path.now c.in_ok-image.image.items c.in-Err.bad c.in_ok-image.ensures.read
@@ -39,9 +39,9 @@ new-requires-clause-front g c =
 
 pub returns-in-Ok-clause-image : goal.returns-in-Ok-clause-image
 returns-in-Ok-clause-image g c =
-    let files = g.K.Disk.files c.read_file.new.disk in
-    let opened = g.K.Disk.open_path c.read_file.new.disk in
+    let files = (g.K.Disk.told c.read_file.new.disk).files in
+    let opened = (g.K.Disk.told c.read_file.new.disk).open_path in
     let same = c.read_file.ensures.files in
     subst (λ b. IsImage (content files opened) b) (sym c.new.ensures.image)
     (subst (λ f. IsImage (content f opened) c.in_ok-image.image.items) (sym same)
-    (image_read (g.K.Disk.files c.args.disk.now) opened c.args.path.now c.in_ok-image.image.items c.in_ok-image.ensures.path c.in_ok-image.ensures.read))
+    (image_read (g.K.Disk.told c.args.disk.now).files opened c.args.path.now c.in_ok-image.image.items c.in_ok-image.ensures.path c.in_ok-image.ensures.read))

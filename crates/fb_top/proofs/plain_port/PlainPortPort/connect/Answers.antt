@@ -1,4 +1,5 @@
-use Rattle.std.proofs.Common.{refl, sym, ap, ◌∙◌, subst, Option, Some}
+use Rattle.std.proofs.Common.{refl, sym, ap, ◌∙◌, subst, Option, Some, arith}
+use Rattle.std.specs.Prelude.{is_some}
 use Rattle.wire_told.specs.Told.{HungUp}
 use Rattle.fb_top.specs.declared.plain_device.PlainDevice.{PlainDevice}
 use Rattle.fb_top.specs.declared.plain_peer.PlainPeer.{PlainPeer}
@@ -12,8 +13,8 @@ use Rattle.fb_top.proofs.plain_port.PlainPortPort.connect.Goals as goal
 
 pub invariant_of-self : goal.invariant_of-self
 invariant_of-self g c =
-    let size = g.K.Disk.open_length c.args.self.now.disk in
-    let file = content (g.K.Disk.files c.args.self.now.disk) (g.K.Disk.open_path c.args.self.now.disk) in
+    let size = (g.K.Disk.told c.args.self.now.disk).open_length in
+    let file = content (g.K.Disk.told c.args.self.now.disk).files (g.K.Disk.told c.args.self.now.disk).open_path in
     let p = c.in-Some.peer in
     record {
       stored = open_so size c.connect.new.self
@@ -22,9 +23,16 @@ invariant_of-self g c =
           (sym (ap (is_held file) c.in-Some.is) ∙ c.args.self.now.held);
     }
 
-pub returns-in_default-connect-clause-left : goal.returns-in_default-connect-clause-left
-returns-in_default-connect-clause-left g c =
+pub returns-in_default-connect-clause-drops : goal.returns-in_default-connect-clause-drops
+returns-in_default-connect-clause-drops g c =
     let p = c.in-Some.peer in
     let n = c.connect.new.self in
-    subst (λ (o : Option PlainPeer). HungUp (peer_of o) (Some (told_by n))) (sym c.in-Some.is)
-    (hung_if p.up n.up (state_of p) (state_of n) (dev_of p.device) (dev_of n.device) c.in_default-connect.ensures.down (ap dev_of c.connect.ensures.device) refl)
+    record {
+      down = c.in_default-connect.ensures.down;
+      left = subst (λ (o : Option PlainPeer). HungUp (peer_of o) (Some (told_by n))) (sym c.in-Some.is)
+          (hung_if p.up n.up (state_of p) (state_of n) (dev_of p.device) (dev_of n.device) c.in_default-connect.ensures.down (ap dev_of c.connect.ensures.device) refl);
+      kept = record { aimed_still = sym (ap is_some c.in-Some.is); last_same = refl; others = λ other n. refl; later = omega arith; no_fewer = omega arith; honest = λ h. h };
+      heard = refl;
+      log = refl;
+      ends = refl;
+    }

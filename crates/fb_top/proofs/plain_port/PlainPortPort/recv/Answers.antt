@@ -7,8 +7,8 @@ use Rattle.fb_top.proofs.plain_port.PlainPortPort.recv.Goals as goal
 
 pub invariant_of-self : goal.invariant_of-self
 invariant_of-self g c =
-    let size = g.K.Disk.open_length c.args.self.now.disk in
-    let file = content (g.K.Disk.files c.args.self.now.disk) (g.K.Disk.open_path c.args.self.now.disk) in
+    let size = (g.K.Disk.told c.args.self.now.disk).open_length in
+    let file = content (g.K.Disk.told c.args.self.now.disk).files (g.K.Disk.told c.args.self.now.disk).open_path in
     record {
       stored = open_so size _ (open_known size c.in-Some.peer (sym (ap (is_open_for size) c.in-Some.is) ∙ c.args.self.now.stored));
       held = same_held file c.in-Some.peer _ refl refl (sym (ap (is_held file) c.in-Some.is) ∙ c.args.self.now.held);
@@ -16,8 +16,8 @@ invariant_of-self g c =
 
 pub invariant_of-self-else-not-is_empty : goal.invariant_of-self-else-not-is_empty
 invariant_of-self-else-not-is_empty g c =
-    let size = g.K.Disk.open_length c.args.self.now.disk in
-    let file = content (g.K.Disk.files c.args.self.now.disk) (g.K.Disk.open_path c.args.self.now.disk) in
+    let size = (g.K.Disk.told c.args.self.now.disk).open_length in
+    let file = content (g.K.Disk.told c.args.self.now.disk).files (g.K.Disk.told c.args.self.now.disk).open_path in
     record {
       stored = open_so size _ (open_known size c.in-Some.peer (sym (ap (is_open_for size) c.in-Some.is) ∙ c.args.self.now.stored));
       held = same_held file c.in-Some.peer _ refl refl (sym (ap (is_held file) c.in-Some.is) ∙ c.args.self.now.held);
@@ -25,8 +25,8 @@ invariant_of-self-else-not-is_empty g c =
 
 pub invariant_of-self-else-count-eq0 : goal.invariant_of-self-else-count-eq0
 invariant_of-self-else-count-eq0 g c =
-    let size = g.K.Disk.open_length c.args.self.now.disk in
-    let file = content (g.K.Disk.files c.args.self.now.disk) (g.K.Disk.open_path c.args.self.now.disk) in
+    let size = (g.K.Disk.told c.args.self.now.disk).open_length in
+    let file = content (g.K.Disk.told c.args.self.now.disk).files (g.K.Disk.told c.args.self.now.disk).open_path in
     record {
       stored = open_so size _ (open_known size c.in-Some.peer (sym (ap (is_open_for size) c.in-Some.is) ∙ c.args.self.now.stored));
       held = same_held file c.in-Some.peer _ refl refl (sym (ap (is_held file) c.in-Some.is) ∙ c.args.self.now.held);
