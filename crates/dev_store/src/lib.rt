@@ -1,0 +1,39 @@
+//! The device image: its layout, its state record, its partitions and the table of its super.
+#![tactic(auto)]
+
+ghost use Rattle.dev_store.specs.Laws.{RepairedOwns};
+ghost use Rattle.dev_store.specs.Laws.{StandsOnce, StandsByParts, CreateRefuses, DeleteRefuses};
+ghost use Rattle.dev_store.specs.Laws.{ResizeRefuses};
+ghost use Rattle.dev_store.specs.Laws.{InstallRefuses, UnchangedIsHonest, RepairedStands, RecordAgain};
+ghost use Rattle.dev_store.specs.Laws.{OneStateReads, OneTableReads, ZeroedRefuses, LaidValid};
+ghost use Rattle.dev_store.specs.Laws.{PlainStandsValid};
+ghost use Rattle.dev_store.specs.Rows.{Rows};
+
+pub mod errors;
+pub mod layout;
+pub mod state;
+pub mod store;
+
+/// Worked examples of the definitions.
+pub fn rows()
+    ensures { Rows }
+{}
+
+/// The laws of device images.
+pub fn laws()
+    ensures stands_once { StandsOnce }
+    ensures stands_by_parts { StandsByParts }
+    ensures create_refuses { CreateRefuses }
+    ensures delete_refuses { DeleteRefuses }
+    ensures resize_refuses { ResizeRefuses }
+    ensures install_refuses { InstallRefuses }
+    ensures unchanged_is_honest { UnchangedIsHonest }
+    ensures repaired_stands { RepairedStands }
+    ensures repaired_owns { RepairedOwns }
+    ensures record_again { RecordAgain }
+    ensures one_state_reads { OneStateReads }
+    ensures one_table_reads { OneTableReads }
+    ensures zeroed_refuses { ZeroedRefuses }
+    ensures laid_valid { LaidValid }
+    ensures plain_stands_valid { PlainStandsValid }
+{}
