@@ -1,5 +1,5 @@
--- A file stands for devices that there can be.
-use Rattle.std.proofs.Common.{◌≡◌, ◌∙◌, refl, ap, sym, subst, ℕ, suc, ◌+◌, ◌≤◌, Bool, true, false, not, ◌&&◌, ◌||◌, List, [], ◌∷◌, ◌++◌, map, length, take, drop, sum_by, Option, Some, None, Result, Ok, Err, inl, inr, option_map, ◌==◌, if◌then◌else◌, arith}
+-- A file without super stands for devices that there can be.
+use Rattle.std.proofs.Common.{◌≡◌, ◌∙◌, refl, ap, sym, subst, ℕ, suc, ◌+◌, ◌≤◌, Bool, true, false, not, ◌&&◌, ◌||◌, List, [], ◌∷◌, ◌++◌, map, length, take, drop, sum_by, Option, Some, None, Result, Ok, Err, inl, inr, ◌==◌, if◌then◌else◌, arith}
 use Rattle.std.specs.Prelude.{◌⊎◌, nat_le}
 use Rattle.std.specs.Option.{option_or}
 use Rattle.std.specs.List.{list_all}
@@ -20,11 +20,9 @@ use Rattle.dev_store.specs.declared.layout.SuperPart.{SuperPart}
 use Rattle.dev_store.specs.declared.state.State.{State}
 use Rattle.dev_store.specs.LayoutLines.{is_size}
 use Rattle.dev_store.specs.Layouts.{LayoutValue, layout_of, layout_in, text_in, image_size}
-use Rattle.dev_store.specs.States.{state_at, is_state, is_record, record_of, state_copy, both_flags}
+use Rattle.dev_store.specs.States.{state_at, is_state, is_record, record_of, both_flags}
 use Rattle.dev_store.specs.Stand.{SuperValue, no_super, super_found, physical_at, device_with}
 use Rattle.dev_store.specs.Laid.{IsLaid}
-use Rattle.dev_store.specs.Laws.{PlainStandsValid}
-use Rattle.dev_store.proofs.StandLemmas.{stands_by_parts}
 use Rattle.dev_store.proofs.LaidLemmas.{laid_valid}
 
 ok-there : (r : Result LayoutValue LayoutError) (l : LayoutValue) → result_ok r ≡ Some l → r ≡ Ok l
@@ -60,7 +58,7 @@ record-fits slots version state block h = by (is_record slots 2 block) (is_recor
   by false true e f k = subst (λ s. is_state slots s ≡ true) (some-pair (1, state_at block) (version, state) k) (state-fits slots 1 block f)
   by false false e f k = absurd cc
 
-or-fits : (slots version : ℕ) (state : State) (first second : List ℕ) → option_or (record_of slots first) (record_of slots second) ≡ Some (version, state) → is_state slots state ≡ true
+pub or-fits : (slots version : ℕ) (state : State) (first second : List ℕ) → option_or (record_of slots first) (record_of slots second) ≡ Some (version, state) → is_state slots state ≡ true
 or-fits slots version state first second h = by (record_of slots first) refl h where
   by : (o : Option (ℕ × State)) → record_of slots first ≡ o → option_or o (record_of slots second) ≡ Some (version, state) → is_state slots state ≡ true
   by None e k = record-fits slots version state second k
@@ -95,7 +93,7 @@ two-good slots active f g h = by (or-cases _ _ h) where
       let c = both (is_blank g) true b.1 in
       or-second _ _ (and-true _ _ (and-true _ _ a.0 b.0) c.0)
 
-slots-fit : (slots : ℕ) (locked : Bool) (active : Slot) (flags : List SlotFlags) (userspace : Bool) →
+pub slots-fit : (slots : ℕ) (locked : Bool) (active : Slot) (flags : List SlotFlags) (userspace : Bool) →
     is_state slots (record { locked = locked; active = active; flags = flags; userspace = userspace }) ≡ true →
     flags-good slots active (both_flags flags).a (both_flags flags).b ≡ true
 unfolding is_state
@@ -107,18 +105,18 @@ slots-fit slots locked active (f ∷ g ∷ k ∷ rest) userspace h =
     absurd (omega (arith, long))
 
 -- the physical partitions are the layout's, with as many bytes
-names-same : (place : ℕ) (parts : List PhysicalPart) (file : List ℕ) → map (λ p. p.name) (physical_at place parts file) ≡ map (λ p. p.name) parts
+pub names-same : (place : ℕ) (parts : List PhysicalPart) (file : List ℕ) → map (λ p. p.name) (physical_at place parts file) ≡ map (λ p. p.name) parts
 names-same place [] file = refl
 names-same place (p ∷ parts) file = ap (λ rest. p.name ∷ rest) (names-same (place + p.size) parts file)
 
-count-same : (place : ℕ) (parts : List PhysicalPart) (file : List ℕ) → length (physical_at place parts file) ≡ length parts
+pub count-same : (place : ℕ) (parts : List PhysicalPart) (file : List ℕ) → length (physical_at place parts file) ≡ length parts
 count-same place [] file = refl
 count-same place (p ∷ parts) file = ap suc (count-same (place + p.size) parts file)
 
-range-long : (place size : ℕ) (file : List ℕ) → place + size ≤ length file → length (take size (drop place file)) ≡ size
+pub range-long : (place size : ℕ) (file : List ℕ) → place + size ≤ length file → length (take size (drop place file)) ≡ size
 range-long place size file h = let d = length-drop place file in length-take-le size (drop place file) (omega arith)
 
-sizes-fit : (place : ℕ) (parts : List PhysicalPart) (file : List ℕ) → place + sum_by (λ p. p.size) parts ≤ length file → list_all (λ p. is_size p.size) parts ≡ true →
+pub sizes-fit : (place : ℕ) (parts : List PhysicalPart) (file : List ℕ) → place + sum_by (λ p. p.size) parts ≤ length file → list_all (λ p. is_size p.size) parts ≡ true →
     list_all (λ p. is_sized p.bytes) (physical_at place parts file) ≡ true
 sizes-fit place [] file h k = refl
 sizes-fit place (p ∷ parts) file h k =
@@ -127,7 +125,7 @@ sizes-fit place (p ∷ parts) file h k =
     and-true (is_sized (take p.size (drop place file))) _ (ap is_size (range-long place p.size file (omega arith)) ∙ parts-good.0)
     (sizes-fit (place + p.size) parts file (omega arith) parts-good.1)
 
-all-mapped : (parts : List PhysicalPart) → list_all (λ p. is_name p.name) parts ≡ true → list_all is_name (map (λ p. p.name) parts) ≡ true
+pub all-mapped : (parts : List PhysicalPart) → list_all (λ p. is_name p.name) parts ≡ true → list_all is_name (map (λ p. p.name) parts) ≡ true
 all-mapped [] h = refl
 all-mapped (p ∷ parts) h = let b = both (is_name p.name) _ h in and-true (is_name p.name) _ b.0 (all-mapped parts b.1)
 
@@ -135,10 +133,10 @@ nothing-behind : (xs : List (List ℕ)) → xs ++ [] ≡ xs
 nothing-behind [] = refl
 nothing-behind (x ∷ xs) = ap (λ rest. x ∷ rest) (nothing-behind xs)
 
-abbrev plain : LayoutValue → LayoutValue
+abbrev pub plain : LayoutValue → LayoutValue
 plain layout = record layout { super_part = None }
 
-plain-valid : (layout : LayoutValue) (state : State) (file : List ℕ) → IsLaid (plain layout) → is_state layout.slots state ≡ true → length file ≡ image_size (plain layout) →
+pub plain-valid : (layout : LayoutValue) (state : State) (file : List ℕ) → IsLaid (plain layout) → is_state layout.slots state ≡ true → length file ≡ image_size (plain layout) →
     IsValid (device_with (plain layout) state (physical_at 12288 layout.physical file) no_super)
 plain-valid layout state file l s long =
     let parts = physical_at 12288 layout.physical file in
@@ -163,27 +161,10 @@ plain-valid layout state file l s long =
       super = refl;
     }
 
-none-name : (part : Option SuperPart) → option_map (λ s. s.name) part ≡ None → part ≡ None
-none-name None h = refl
-none-name (Some s) h = absurd cc
-
-no-super : (layout : LayoutValue) (part : Option SuperPart) (file : List ℕ) (super : SuperValue) → part ≡ None → super_found layout part file ≡ Ok super → super ≡ no_super
+pub no-super : (layout : LayoutValue) (part : Option SuperPart) (file : List ℕ) (super : SuperValue) → part ≡ None → super_found layout part file ≡ Ok super → super ≡ no_super
 unfolding super_found
 no-super layout None file super e h = by (super_found layout None file) refl h where
   by : (r : Result SuperValue BadImage) → r ≡ Ok no_super → r ≡ Ok super → super ≡ no_super
   by (Ok x) k l = cc
   by (Err b) k l = absurd cc
 no-super layout (Some s) file super e h = absurd cc
-
-pub plain_stands_valid : PlainStandsValid
-plain_stands_valid file dev h none =
-    let p = stands_by_parts file dev h in
-    let layout = p.layout in
-    let part : layout.super_part ≡ None = none-name layout.super_part (ap (λ d. d.super_name) (sym p.device) ∙ none) in
-    let same : layout ≡ plain layout = ap (λ q. record layout { super_part = q }) part in
-    let laid : IsLaid (plain layout) = subst IsLaid same (laid-in file layout p.laid) in
-    let fits : is_state layout.slots p.state ≡ true = or-fits layout.slots p.version p.state (state_copy false file) (state_copy true file) p.recorded in
-    let long : length file ≡ image_size (plain layout) = eqb-true (length file) (image_size layout) p.long ∙ ap image_size same in
-    let super : p.super ≡ no_super = no-super layout layout.super_part file p.super part p.tabled in
-    subst IsValid (sym (p.device ∙ (ap (λ s. device_with layout p.state (physical_at 12288 layout.physical file) s) super ∙ ap (λ l. device_with l p.state (physical_at 12288 layout.physical file) no_super) same)))
-    (plain-valid layout p.state file laid fits long)

@@ -1,11 +1,12 @@
 -- Laws of device images, which `laws` of this crate names.
 use Rattle.std.specs.Option.{option_or}
 use Rattle.std.specs.Prelude.{◌≡◌, ◌⊎◌, ℕ, Bool, List, Some, option_map, option_and_then, Ok, IsTrue}
-use Rattle.std.specs.Prelude.{IsFalse, length, ◌==◌, None}
+use Rattle.std.specs.Prelude.{IsFalse, length, ◌==◌, None, ◌≢◌, ◌+◌, ◌≤◌}
 use Rattle.dev_model.specs.declared.device.Dev.{Dev}
 use Rattle.dev_model.specs.Partitions.{with_mode, is_userspace, is_super}
 use Rattle.dev_model.specs.Validity.{IsValid}
 use Rattle.dev_model.specs.Refusals.{create_refusal, delete_refusal, resize_refusal, update_refusal}
+use Rattle.unit_alloc.specs.Owning.{times_in}
 use Rattle.super_meta.specs.Held.{tables_of_image}
 use Rattle.dev_store.specs.declared.state.State.{State}
 use Rattle.dev_store.specs.Laid.{IsLaid}
@@ -114,6 +115,11 @@ pub record ZeroedRefuses : Type 0 where
 abbrev pub LaidValid : Type 0
 LaidValid = (text : List ℕ) (layout : LayoutValue) → layout_of text ≡ Ok layout → IsLaid layout
 
--- A file without super stands for a device that there can be.
-abbrev pub PlainStandsValid : Type 0
-PlainStandsValid = (file : List ℕ) (dev : Dev) → stand file ≡ Ok dev → dev.super_name ≡ None → IsValid dev
+-- A file stands for devices alone that there can be.
+abbrev pub StandsValid : Type 0
+StandsValid = (file : List ℕ) (dev : Dev) → stand file ≡ Ok dev → IsValid dev
+
+-- Partitions of different names share no unit, and none has one twice.
+abbrev pub OwnsOnce : Type 0
+OwnsOnce = (file : List ℕ) (dev : Dev) (name other : List ℕ) (unit : ℕ) → stand file ≡ Ok dev → name ≢ other →
+    times_in unit (owned file name) + times_in unit (owned file other) ≤ 1

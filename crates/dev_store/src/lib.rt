@@ -6,7 +6,7 @@ ghost use Rattle.dev_store.specs.Laws.{StandsOnce, StandsByParts, CreateRefuses,
 ghost use Rattle.dev_store.specs.Laws.{ResizeRefuses};
 ghost use Rattle.dev_store.specs.Laws.{InstallRefuses, UnchangedIsHonest, RepairedStands, RecordAgain};
 ghost use Rattle.dev_store.specs.Laws.{OneStateReads, OneTableReads, ZeroedRefuses, LaidValid};
-ghost use Rattle.dev_store.specs.Laws.{PlainStandsValid};
+ghost use Rattle.dev_store.specs.Laws.{StandsValid, OwnsOnce};
 ghost use Rattle.dev_store.specs.Rows.{Rows};
 
 pub mod errors;
@@ -35,5 +35,6 @@ pub fn laws()
     ensures one_table_reads { OneTableReads }
     ensures zeroed_refuses { ZeroedRefuses }
     ensures laid_valid { LaidValid }
-    ensures plain_stands_valid { PlainStandsValid }
+    ensures stands_valid { StandsValid }
+    ensures owns_once { OwnsOnce }
 {}
