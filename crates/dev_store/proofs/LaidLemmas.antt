@@ -20,7 +20,9 @@ use Rattle.dev_store.specs.declared.layout.LayoutKind.TheVariants.{BadFirst, Dup
 use Rattle.dev_store.specs.declared.layout.LayoutError.{LayoutError}
 use Rattle.dev_store.specs.declared.layout.PhysicalPart.{PhysicalPart}
 use Rattle.dev_store.specs.declared.layout.SuperPart.{SuperPart}
-use Rattle.dev_store.specs.LayoutLines.{Entry, ProductLine, SerialLine, SlotsLine, DownloadLine, VariableLine, PartitionLine, SuperLine, entry_of, behind, is_number, variable_of, partition_of, super_of, at_space, is_space, is_size, is_sized, has_room, keys, is_taken, is_repeated, is_too_many, entry_flaw, variable_in, partition_in, super_in, lines}
+use Rattle.dev_store.specs.declared.entries.Entry.{Entry}
+use Rattle.dev_store.specs.declared.entries.Entry.TheVariants.{ProductLine, SerialLine, SlotsLine, DownloadLine, VariableLine, PartitionLine, SuperLine}
+use Rattle.dev_store.specs.LayoutLines.{entry_of, behind, is_number, variable_of, partition_of, super_of, at_space, is_space, is_size, is_sized, has_room, keys, is_taken, is_repeated, is_too_many, entry_flaw, variable_in, partition_in, super_in, lines}
 use Rattle.dev_store.specs.Laid.{IsLaid, is_good_super}
 use Rattle.dev_store.specs.Laws.{LaidValid}
 use Rattle.dev_store.specs.Layouts.{LayoutValue, layout_of, layout_with, first_of, product_in, serial_in, slots_in, download_in, read_lines, added, unless_flawed, at_line, is_complete, entries_of, with_text, is_first_line}

@@ -6,7 +6,8 @@ use Rattle.fb_frame.specs.NameText.{is_name}
 use Rattle.fb_frame.specs.Distinct.{are_distinct}
 use Rattle.dev_model.specs.Validity.{is_between, is_label, is_variable}
 use Rattle.dev_store.specs.declared.layout.SuperPart.{SuperPart}
-use Rattle.dev_store.specs.LayoutLines.{SuperLine, is_size, is_sized, has_room}
+use Rattle.dev_store.specs.declared.entries.Entry.TheVariants.{SuperLine}
+use Rattle.dev_store.specs.LayoutLines.{is_size, is_sized, has_room}
 use Rattle.dev_store.specs.Layouts.{LayoutValue}
 
 -- a super whose numbers keep their conditions, and where a table has room

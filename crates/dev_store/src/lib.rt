@@ -9,8 +9,13 @@ ghost use Rattle.dev_store.specs.Laws.{OneStateReads, OneTableReads, ZeroedRefus
 ghost use Rattle.dev_store.specs.Laws.{StandsValid, OwnsOnce};
 ghost use Rattle.dev_store.specs.Rows.{Rows};
 
+mod entries;
 pub mod errors;
 pub mod layout;
+mod layout_draft;
+mod layout_line;
+mod layout_super;
+mod layout_text;
 pub mod state;
 pub mod store;
 
