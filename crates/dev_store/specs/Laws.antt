@@ -21,6 +21,8 @@ use Rattle.dev_store.specs.Stand.{SuperValue, Stands, Settled, stand, super_foun
 use Rattle.dev_store.specs.Changes.{error_text, range_flaw, create_flaw, delete_flaw, resize_flaw}
 use Rattle.dev_store.specs.Changes.{install_flaw}
 use Rattle.dev_store.specs.Held.{zeroed}
+use Rattle.dev_store.specs.NewDevice.{made_image}
+use Rattle.dev_store.specs.Opening.{IsMade}
 use Rattle.dev_disk.specs.Files.{Tears, StaysTorn, unchanged}
 use Rattle.dev_disk.specs.Honest.{ReadsAs}
 use Rattle.dev_store.specs.Faults.{IsHonest}
@@ -123,3 +125,8 @@ StandsValid = (file : List ℕ) (dev : Dev) → stand file ≡ Ok dev → IsVali
 abbrev pub OwnsOnce : Type 0
 OwnsOnce = (file : List ℕ) (dev : Dev) (name other : List ℕ) (unit : ℕ) → stand file ≡ Ok dev → name ≢ other →
     times_in unit (owned file name) + times_in unit (owned file other) ≤ 1
+
+-- The image that is made for a layout stands for the new device, and nothing is left to repair.
+abbrev pub MadeStands : Type 0
+MadeStands = (text : List ℕ) (layout : LayoutValue) (unlocked : Bool) → layout_of text ≡ Ok layout →
+    IsMade layout unlocked (made_image layout unlocked)

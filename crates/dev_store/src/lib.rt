@@ -7,6 +7,7 @@ ghost use Rattle.dev_store.specs.Laws.{ResizeRefuses};
 ghost use Rattle.dev_store.specs.Laws.{InstallRefuses, UnchangedIsHonest, RepairedStands, RecordAgain};
 ghost use Rattle.dev_store.specs.Laws.{OneStateReads, OneTableReads, ZeroedRefuses, LaidValid};
 ghost use Rattle.dev_store.specs.Laws.{StandsValid, OwnsOnce};
+ghost use Rattle.dev_store.specs.Laws.{MadeStands};
 ghost use Rattle.dev_store.specs.Rows.{Rows};
 
 mod entries;
@@ -16,6 +17,7 @@ mod layout_draft;
 mod layout_line;
 mod layout_super;
 mod layout_text;
+mod record;
 pub mod state;
 pub mod store;
 
@@ -42,4 +44,5 @@ pub fn laws()
     ensures laid_valid { LaidValid }
     ensures stands_valid { StandsValid }
     ensures owns_once { OwnsOnce }
+    ensures made_stands { MadeStands }
 {}
