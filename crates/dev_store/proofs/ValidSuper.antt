@@ -28,7 +28,8 @@ use Rattle.super_meta.proofs.HeldLemmas.{table-read, all-there}
 use Rattle.dev_store.specs.declared.layout.PhysicalPart.{PhysicalPart}
 use Rattle.dev_store.specs.declared.layout.SuperPart.{SuperPart}
 use Rattle.dev_store.specs.declared.state.State.{State}
-use Rattle.dev_store.specs.LayoutLines.{SuperLine, first_unit, unit_count, is_sized, is_size, has_room}
+use Rattle.dev_store.specs.declared.entries.Entry.TheVariants.{SuperLine}
+use Rattle.dev_store.specs.LayoutLines.{first_unit, unit_count, is_sized, is_size, has_room}
 use Rattle.dev_store.specs.Layouts.{LayoutValue, parts_end, image_size}
 use Rattle.dev_store.specs.States.{is_state}
 use Rattle.dev_store.specs.Supers.{extents_of, bytes_in, unit_at, units_in, units_of, is_at_unit, lies_in_units, are_different, size_in, is_barred, is_placed, are_good_units, unit_bytes, units_bytes, logical_at}
