@@ -1,11 +1,11 @@
 -- What stands once, sought line by line.
-use Rattle.std.proofs.Common.{◌≡◌, ◌∙◌, refl, ap, sym, ℕ, suc, ◌+◌, Bool, true, false, ◌||◌, List, [], ◌∷◌, ◌++◌, length, Option, Some, None, is_some, cond, length-append}
-use Rattle.std.specs.Prelude.{bytes_eq, filter_map, filter, flat_map, count_by}
+use Rattle.std.proofs.Common.{◌≡◌, ◌∙◌, refl, ap, sym, ℕ, ◌+◌, Bool, true, false, ◌||◌, List, [], ◌∷◌, ◌++◌, length, Option, Some, None, is_some, cond, length-append}
+use Rattle.std.specs.Prelude.{bytes_eq, filter_map, flat_map, count_by}
 use Rattle.std.specs.List.{list_any}
 use Rattle.std.proofs.lemmas.List.Elements.{filter_map-append}
 use Rattle.std.proofs.lemmas.List.Sums.{sum_by-cons}
 use Rattle.dev_store.specs.declared.entries.Entry.{Entry}
-use Rattle.dev_store.specs.LayoutLines.{keys, is_taken, variable_in, partition_in}
+use Rattle.dev_store.specs.LayoutLines.{keys, is_taken}
 
 or-assoc : (a b c : Bool) → (a || b || c) ≡ (a || (b || c))
 or-assoc true b c = refl

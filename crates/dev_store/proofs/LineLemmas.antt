@@ -1,12 +1,12 @@
 -- The form of a line by the word that it begins with.
-use Rattle.std.proofs.Common.{◌≡◌, ◌∙◌, refl, ap, sym, subst, ℕ, suc, Bool, true, false, List, [], ◌∷◌, length, take, drop, Option, Some, None, Result, if◌then◌else◌, option_map, arith}
-use Rattle.std.specs.Prelude.{nat_eq, codes, ◌&&◌}
+use Rattle.std.proofs.Common.{◌≡◌, ◌∙◌, refl, ap, sym, subst, ℕ, Bool, true, false, List, [], ◌∷◌, length, drop, Option, Some, None, Result, if◌then◌else◌, option_map, arith}
+use Rattle.std.specs.Prelude.{nat_eq, codes}
 use Rattle.std.specs.Option.{option_or}
 use Rattle.std.specs.List.{starts_with, slice_split}
 use Rattle.std.proofs.lemmas.Bool.Decides.{nat_tests}
 use Rattle.dev_model.proofs.Valid.{both}
 use Rattle.dev_store.specs.declared.entries.Entry.{Entry}
-use Rattle.dev_store.specs.declared.entries.Entry.TheVariants.{ProductLine, SerialLine, SlotsLine, DownloadLine, VariableLine, PartitionLine, SuperLine}
+use Rattle.dev_store.specs.declared.entries.Entry.TheVariants.{ProductLine, SerialLine, SlotsLine, DownloadLine}
 use Rattle.dev_store.specs.declared.layout_line.LineError.{LineError}
 use Rattle.dev_store.specs.LayoutLines.{entry_of, behind, label_of, number_of, variable_of, partition_of, super_of, at_space, is_space}
 use Rattle.dev_store.specs.LineReading.{IsRead}

@@ -1,11 +1,11 @@
 -- Numbers of any length, and tests on them.
-use Rattle.std.proofs.Common.{◌≡◌, ◌∙◌, refl, ap, sym, subst, ℕ, suc, zero, ◌+◌, ◌-◌, ◌*◌, ◌^◌, ◌<◌, ◌≤◌, min, Bool, true, false, not, ◌&&◌, ◌||◌, List, [], ◌∷◌, length, get_or, Option, Some, None, inl, inr, ◌⊎◌, if◌then◌else◌, arith, unwrap_or}
-use Rattle.std.specs.Prelude.{nat_le, nat_lt, ◌==◌, ◌%◌, fold, slice_index, IsTrue}
+use Rattle.std.proofs.Common.{◌≡◌, ◌∙◌, refl, ap, sym, ℕ, suc, zero, ◌+◌, ◌-◌, ◌*◌, ◌^◌, ◌<◌, ◌≤◌, min, Bool, true, false, ◌&&◌, ◌||◌, List, [], ◌∷◌, length, Some, None, if◌then◌else◌, arith, unwrap_or}
+use Rattle.std.specs.Prelude.{nat_le, nat_lt, ◌==◌, fold, IsTrue}
 use Rattle.std.specs.List.{list_all}
 use Rattle.std.proofs.lemmas.Bool.Decides.{nat_tests}
-use Rattle.dev_model.proofs.Valid.{both, and-true}
+use Rattle.dev_model.proofs.Valid.{both}
 use Rattle.fb_frame.specs.Numbers.{is_digit, digits_worth, read_dec}
-use Rattle.dev_store.specs.LayoutLines.{is_number, is_size}
+use Rattle.dev_store.specs.LayoutLines.{is_number}
 
 -- a digit more
 abbrev step : ℕ → ℕ → ℕ

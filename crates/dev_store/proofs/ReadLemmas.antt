@@ -1,6 +1,6 @@
 -- Reading the lines one by one.
-use Rattle.std.proofs.Common.{◌≡◌, ◌∙◌, refl, ap, sym, ℕ, ◌+◌, ◌≤◌, ◌<◌, Bool, true, false, not, List, [], ◌∷◌, ◌++◌, length, Option, Some, None, Result, Ok, Err, if◌then◌else◌, option_map, unwrap_or, arith}
-use Rattle.std.specs.Prelude.{bytes_eq, nat_lt, codes, ◌==◌, IsTrue, option_and_then}
+use Rattle.std.proofs.Common.{◌≡◌, ◌∙◌, refl, ap, sym, ℕ, ◌+◌, ◌≤◌, ◌<◌, Bool, true, false, not, List, [], ◌∷◌, ◌++◌, length, Option, Some, None, Ok, Err, if◌then◌else◌, option_map, unwrap_or, arith}
+use Rattle.std.specs.Prelude.{bytes_eq, nat_lt, codes, ◌==◌}
 use Rattle.std.proofs.lemmas.Bool.Decides.{nat_tests}
 use Rattle.std.proofs.lemmas.List.{nil_from_length}
 use Rattle.dev_model.specs.Options.{first_passed}
@@ -9,7 +9,7 @@ use Rattle.dev_store.specs.declared.layout.LayoutKind.{LayoutKind}
 use Rattle.dev_store.specs.declared.layout.LayoutKind.TheVariants.{BadFirst, BadLine, BadSize, Duplicate, TooMany, NoRoom, Missing, TooLong}
 use Rattle.dev_store.specs.declared.layout.LayoutError.{LayoutError}
 use Rattle.dev_store.specs.LayoutLines.{entry_of, entry_flaw, is_sized, is_repeated, is_too_many, has_room, lines}
-use Rattle.dev_store.specs.Layouts.{LayoutValue, layout_of, layout_with, read_lines, added, unless_flawed, at_line, is_complete, entries_of, with_text}
+use Rattle.dev_store.specs.Layouts.{layout_of, layout_with, read_lines, added, unless_flawed, at_line, is_complete, entries_of, with_text}
 use Rattle.dev_store.specs.declared.layout_draft.Draft.{Draft}
 use Rattle.dev_store.specs.Drafts.{Gathers, drafted}
 use Rattle.dev_store.specs.LineReading.{IsGoneOn, IsStopped}

@@ -1,11 +1,8 @@
 -- The numbers of a line, which may be of any length.
-use Rattle.std.proofs.Common.{◌≡◌, ◌∙◌, refl, ap, sym, subst, ℕ, suc, ◌+◌, ◌-◌, ◌^◌, ◌<◌, ◌≤◌, min, Bool, true, false, not, ◌&&◌, ◌||◌, List, [], ◌∷◌, length, Option, Some, None, inl, inr, ◌⊎◌, if◌then◌else◌, cond, arith, option_map, Ok, Err}
-use Rattle.std.specs.Prelude.{nat_le, nat_lt, ◌==◌, ◌%◌, IsTrue}
+use Rattle.std.proofs.Common.{◌≡◌, ◌∙◌, refl, ap, sym, ℕ, ◌^◌, ◌≤◌, min, Bool, true, false, ◌&&◌, List, [], ◌∷◌, length, Option, Some, None, inl, inr, if◌then◌else◌, cond, arith, option_map, Ok}
+use Rattle.std.specs.Prelude.{nat_le, ◌==◌, ◌%◌}
 use Rattle.std.specs.List.{list_all, slice_split, onto_first}
 use Rattle.std.proofs.lemmas.Bool.Decides.{nat_tests}
-use Rattle.std.proofs.lemmas.List.Splits.{slice_split_none}
-use Rattle.std.proofs.lemmas.List.Elements.{All-from_get_or}
-use Rattle.std.proofs.lemmas.List.Sums.{AllPass-from_list_all}
 use Rattle.dev_model.proofs.Valid.{both, and-true}
 use Rattle.dev_model.specs.Validity.{is_between, is_value}
 use Rattle.fb_frame.specs.NameText.{is_name, name_of}
@@ -13,11 +10,10 @@ use Rattle.fb_frame.specs.Numbers.{is_digit, digits_worth}
 use Rattle.dev_store.specs.declared.entries.Entry.{Entry}
 use Rattle.dev_store.specs.declared.entries.Entry.TheVariants.{PartitionLine, SuperLine, VariableLine}
 use Rattle.dev_store.specs.declared.layout.SuperPart.{SuperPart}
-use Rattle.dev_store.specs.declared.layout_line.LineError.TheVariants.{Form, Size}
 use Rattle.dev_store.specs.LayoutLines.{is_number, is_size, is_sized, is_space, partition_of, super_of, variable_of}
-use Rattle.dev_store.specs.LineReading.{IsRead, sized_super, if_sized, variable_name}
+use Rattle.dev_store.specs.LineReading.{IsRead, sized_super, variable_name}
 use Rattle.dev_store.proofs.NumberLemmas.{least-too-big, capped, uncapped}
-use Rattle.dev_store.proofs.SplitLemmas.{one-or-more, Several}
+use Rattle.dev_store.proofs.SplitLemmas.{one-or-more}
 
 -- a number has no space
 digit-no-space : (text : List ℕ) → list_all is_digit text ≡ true → slice_split is_space text ≡ text ∷ []

@@ -1,6 +1,6 @@
 -- How long the image of a layout is at most.
 use Rattle.std.proofs.Common.{◌≡◌, ℕ, ◌^◌, ◌≤◌, true, List, length, Some, None, Ok, arith, Option, ap, subst}
-use Rattle.std.specs.Prelude.{◌&&◌, nat_le, nat_lt, IsTrue, ◌==◌, ◌%◌}
+use Rattle.std.specs.Prelude.{◌&&◌, nat_le, IsTrue, ◌==◌, ◌%◌}
 use Rattle.std.specs.List.{list_all}
 use Rattle.std.specs.Option.{option_map_or}
 use Rattle.dev_model.specs.Validity.{is_between}
@@ -11,7 +11,7 @@ use Rattle.dev_store.specs.declared.layout.SuperPart.{SuperPart}
 use Rattle.fb_frame.specs.NameText.{is_name}
 use Rattle.dev_store.specs.LayoutLines.{is_size, is_sized, has_room}
 use Rattle.dev_store.specs.Layouts.{LayoutValue, layout_of}
-use Rattle.dev_store.specs.Laid.{IsLaid, is_good_super}
+use Rattle.dev_store.specs.Laid.{is_good_super}
 use Rattle.dev_store.proofs.LaidLemmas.{laid_valid}
 
 pub parts-few : (text : List ℕ) (layout : LayoutValue) → layout_of text ≡ Ok layout → length layout.physical ≤ 64

@@ -1,5 +1,5 @@
 -- What reading a line of a layout answers.
-use Rattle.std.specs.Prelude.{◌≡◌, ℕ, Bool, false, not, ◌&&◌, ◌++◌, [], ◌∷◌, List, Option, Some, None, option_map, Result}
+use Rattle.std.specs.Prelude.{◌≡◌, ℕ, false, not, ◌&&◌, ◌∷◌, List, Option, Some, None, option_map, Result}
 use Rattle.std.specs.Prelude.{Ok, Err, ◌+◌, if◌then◌else◌, IsTrue, bytes_eq}
 use Rattle.std.specs.List.{list_all, list_any}
 use Rattle.fb_frame.specs.NameText.{is_word, is_name_byte}

@@ -1,6 +1,7 @@
-ghost use Rattle.std.specs.Prelude.{◌≡◌, ◌++◌, length, filter_map, is_some, option_map, codes, IsTrue, IsFalse, bytes_eq};
+ghost use Rattle.std.specs.Prelude.{◌≡◌, ◌++◌, length, filter_map, is_some, codes, IsTrue, bytes_eq};
 ghost use Rattle.std.specs.List.{list_any};
-ghost use Rattle.dev_store.specs.LayoutLines.{keys, is_taken, is_repeated, is_too_many, is_sized, has_room, entry_flaw};
+ghost use Rattle.dev_store.specs.LayoutLines.{keys, is_taken, is_repeated, is_too_many, is_sized, has_room};
+ghost use Rattle.dev_store.specs.LayoutLines.{entry_flaw};
 ghost use Rattle.dev_store.specs.LayoutLines.{variable_in, partition_in};
 ghost use Rattle.dev_store.specs.Layouts.{is_complete};
 
@@ -68,7 +69,8 @@ impl Entry {
 
     /// Whether this is the partition, or super, of that name.
     fn is_partition(&self, name: &Name) -> bool
-        ensures { result ≡ list_any (λ own. bytes_eq own (codes "partition " ++ name.now)) (keys self.now) }
+        ensures { result
+            ≡ list_any (λ own. bytes_eq own (codes "partition " ++ name.now)) (keys self.now) }
     {
         match self {
             Entry::PartitionLine(part) => part.name.bytes() == name.bytes(),

@@ -1,12 +1,15 @@
-ghost use Rattle.std.specs.Prelude.{◌≡◌, ◌==◌, ◌&&◌, ◌-◌, ◌^◌, ◌∷◌, [], option_map, bytes_eq, drop, length, min, position, codes, Some, None, IfOk, IsTrue, if◌then◌else◌, nat_eq, nat_le, ◌%◌};
+ghost use Rattle.std.specs.Prelude.{◌≡◌, ◌==◌, ◌&&◌, ◌-◌, ◌^◌, ◌∷◌, option_map, bytes_eq, drop, length};
+ghost use Rattle.std.specs.Prelude.{min, position, Some, None, IfOk, IsTrue, if◌then◌else◌, nat_eq, nat_le};
+ghost use Rattle.std.specs.Prelude.{◌%◌};
 ghost use Rattle.std.specs.List.{list_all, list_any, starts_with, slice_split};
-ghost use Rattle.std.specs.Option.{option_map_or};
-ghost use Rattle.fb_frame.specs.NameText.{is_name_byte, is_word};
+ghost use Rattle.fb_frame.specs.NameText.{is_name_byte};
 ghost use Rattle.fb_frame.specs.Numbers.{is_digit, digits_worth};
 ghost use Rattle.dev_model.specs.Validity.{is_between, is_label, is_value, own_names};
-ghost use Rattle.dev_store.specs.declared.entries.Entry.TheVariants.{ProductLine, SerialLine, SlotsLine, DownloadLine, SuperLine};
-ghost use Rattle.dev_store.specs.LayoutLines.{is_space, at_space, is_number, number_of, label_of, variable_of};
-ghost use Rattle.dev_store.specs.LayoutLines.{partition_of, super_of, entry_of, is_size, is_sized};
+ghost use Rattle.dev_store.specs.declared.entries.Entry.TheVariants.{ProductLine, SerialLine, SlotsLine};
+ghost use Rattle.dev_store.specs.declared.entries.Entry.TheVariants.{DownloadLine};
+ghost use Rattle.dev_store.specs.LayoutLines.{is_space, at_space, is_number, number_of, label_of};
+ghost use Rattle.dev_store.specs.LayoutLines.{variable_of};
+ghost use Rattle.dev_store.specs.LayoutLines.{partition_of, super_of, entry_of, is_size};
 ghost use Rattle.dev_store.specs.LineReading.{IsRead, variable_name, sized_super};
 
 use crate::entries::Entry;

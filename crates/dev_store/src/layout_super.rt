@@ -1,4 +1,4 @@
-ghost use Rattle.std.specs.Prelude.{◌≡◌, ◌+◌, ◌*◌, ◌≤◌, ◌<◌, ◌^◌, IsTrue};
+ghost use Rattle.std.specs.Prelude.{◌≡◌, ◌≤◌, ◌^◌, IsTrue};
 ghost use Rattle.dev_store.specs.declared.entries.Entry.TheVariants.{SuperLine};
 ghost use Rattle.dev_store.specs.LayoutLines.{is_sized, first_unit, unit_count, has_room};
 

@@ -1,4 +1,5 @@
-ghost use Rattle.std.specs.Prelude.{◌≡◌, ◌<◌, ◌≤◌, ◌++◌, [], ◌∷◌, length, Some, None, Ok, Err, IfOk, IfSome, OnOk, MatchOption, if◌then◌else◌, ◌==◌};
+ghost use Rattle.std.specs.Prelude.{◌≡◌, ◌<◌, ◌≤◌, [], ◌∷◌, length, Some, None, Ok, Err, IfOk, IfSome};
+ghost use Rattle.std.specs.Prelude.{OnOk, MatchOption, if◌then◌else◌, ◌==◌};
 ghost use Rattle.std.specs.Result.{IsErrOf};
 ghost use Rattle.dev_store.specs.declared.layout.LayoutError.{LayoutError};
 ghost use Rattle.dev_store.specs.LayoutLines.{lines};

@@ -49,3 +49,6 @@ pub fn laws()
     ensures owns_once { OwnsOnce }
     ensures made_stands { MadeStands }
 {}
+
+#[cfg(test)]
+mod layout_tests;
