@@ -21,8 +21,12 @@ pub mod make;
 mod making;
 mod making_blocks;
 mod record;
+mod owners;
 pub mod state;
 pub mod store;
+mod super_read;
+mod super_table;
+mod units;
 
 /// Worked examples of the definitions.
 pub fn rows()

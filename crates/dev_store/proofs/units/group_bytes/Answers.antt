@@ -1,0 +1,9 @@
+use Rattle.std.proofs.Common.{arith}
+use Rattle.super_meta.specs.Contents.{content}
+use Rattle.dev_store.proofs.UnitLemmas.{group-step}
+use Rattle.dev_store.proofs.units.group_bytes.Goals as goal
+
+pub loop-partition-preserved : goal.loop-partition-preserved
+loop-partition-preserved c =
+    let step = group-step (content c.args.table.now) c.args.group.now.name c.deref-partition-items.result.now c.args.table.now.partitions.items c.loop-partition.partition-index c.partition-item.result c.deref-partition-items.ensures.value c.loop-partition-test.true c.partition-item.is in
+    record { so_far = omega (arith, step, c.share-bytes.ensures.share, c.loop-partition.invariant.so_far); bounded = omega (arith, c.share-bytes.ensures.bounded, c.loop-partition.invariant.bounded) }
