@@ -25,6 +25,7 @@ mod owners;
 pub mod state;
 pub mod store;
 mod super_read;
+mod super_repair;
 mod super_table;
 mod units;
 
