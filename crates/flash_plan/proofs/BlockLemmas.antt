@@ -14,7 +14,9 @@ use Rattle.dev_model.proofs.Valid.{both, and-true}
 use Rattle.dev_model.specs.Repeats.{is_active, is_table, is_logical_step, tables_first, boots_first, resized_names, empties_first}
 use Rattle.flash_plan.specs.declared.plan.Order.{Order}
 use Rattle.flash_plan.specs.declared.plan.Order.TheVariants.{Resize, Put, Wipe, Table, Boot}
-use Rattle.flash_plan.specs.Moves.{Move, Flashes, Erases, Updates, Boots, is_logical_move}
+use Rattle.flash_plan.specs.declared.plan_move.Move.{Move}
+use Rattle.flash_plan.specs.declared.plan_move.Move.TheVariants.{Flashes, Erases, Updates, Boots}
+use Rattle.flash_plan.specs.Moves.{is_logical_move}
 use Rattle.flash_plan.specs.Orders.{is_logical_flash, logical_targets, is_turn, is_up, last_that, runs_userspace, rises, empties, fits, own, block, blocks}
 use Rattle.flash_plan.specs.Plans.{step_of}
 use Rattle.flash_plan.proofs.RepeatLemmas.{IsGood, is_updates, updates_first, or-false, or-right, any-snoc}

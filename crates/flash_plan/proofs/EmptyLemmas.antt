@@ -26,7 +26,9 @@ use Rattle.flash_plan.specs.declared.product.Product.{Product}
 use Rattle.flash_plan.specs.Files.{Files}
 use Rattle.flash_plan.specs.Facts.{facts_of}
 use Rattle.flash_plan.specs.Laws.{PlanRepeats}
-use Rattle.flash_plan.specs.Moves.{PlanFault, Move, Flashes, Erases, Updates, Boots, is_logical_move, is_flash, moves_from}
+use Rattle.flash_plan.specs.declared.plan_move.Move.{Move}
+use Rattle.flash_plan.specs.declared.plan_move.Move.TheVariants.{Flashes, Erases, Updates, Boots}
+use Rattle.flash_plan.specs.Moves.{PlanFault, is_logical_move, is_flash, moves_from}
 use Rattle.flash_plan.specs.Orders.{logical_target, is_logical_flash, logical_targets, runs_userspace, rises, empties, fits, own, block, blocks, ends_left, ordered, ordered_by, orders}
 use Rattle.flash_plan.specs.Plans.{step_of, steps_of, steps_by, work_of, images_of, tables_in, no_tables}
 use Rattle.flash_plan.specs.Targets.{slot_of, is_slotless}

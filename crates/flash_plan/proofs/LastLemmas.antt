@@ -23,7 +23,9 @@ use Rattle.flash_plan.specs.declared.product.Product.{Product}
 use Rattle.flash_plan.specs.Facts.{Facts, facts_of}
 use Rattle.flash_plan.specs.Files.{Files}
 use Rattle.flash_plan.specs.Laws.{PlanLeavesLast}
-use Rattle.flash_plan.specs.Moves.{Work, PlanFault, Move, Flashes, Erases, Updates, Boots, is_logical_move, leaves, move_of, moves_from, at_line, aimed, updating, next_size}
+use Rattle.flash_plan.specs.declared.plan_move.Move.{Move}
+use Rattle.flash_plan.specs.declared.plan_move.Move.TheVariants.{Flashes, Erases, Updates, Boots}
+use Rattle.flash_plan.specs.Moves.{Work, PlanFault, is_logical_move, leaves, move_of, moves_from, at_line, aimed, updating, next_size}
 use Rattle.flash_plan.specs.Orders.{is_logical_flash, logical_targets, last_that, runs_userspace, rises, empties, fits, own, block, blocks, is_left, ends_left, ordered, ordered_by, orders}
 use Rattle.flash_plan.specs.Plans.{work_of, step_of, steps_of, steps_by, images_of, tables_in}
 use Rattle.flash_plan.specs.Targets.{candidates, target_in, slot_of, is_slotless}

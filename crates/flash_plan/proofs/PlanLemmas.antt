@@ -11,7 +11,9 @@ use Rattle.flash_plan.specs.declared.plan.PlanKind.{PlanKind}
 use Rattle.flash_plan.specs.declared.plan.PlanKind.TheVariants as why
 use Rattle.flash_plan.specs.Facts.{Facts, facts_of, facts_in}
 use Rattle.flash_plan.specs.Laws.{PlansTold}
-use Rattle.flash_plan.specs.Moves.{Work, PlanFault, Move, Flashes, Erases, move_of, moves_from, at_line, aimed, next_size, updating}
+use Rattle.flash_plan.specs.declared.plan_move.Move.{Move}
+use Rattle.flash_plan.specs.declared.plan_move.Move.TheVariants.{Flashes, Erases}
+use Rattle.flash_plan.specs.Moves.{Work, PlanFault, move_of, moves_from, at_line, aimed, next_size, updating}
 use Rattle.flash_plan.specs.Orders.{orders, ordered_by}
 use Rattle.flash_plan.specs.Products.{is_update}
 use Rattle.flash_plan.specs.Questions.{action_probes}

@@ -16,7 +16,9 @@ use Rattle.dev_model.specs.Resuming.{fixed_names}
 use Rattle.dev_model.proofs.AlignedLemmas.{physical-among}
 use Rattle.flash_plan.specs.declared.plan.PlanKind.{PlanKind}
 use Rattle.flash_plan.specs.Facts.{kind_of, facts_of}
-use Rattle.flash_plan.specs.Moves.{Work, Move, Flashes, Erases, Updates, Boots, is_logical_move, move_of, moves_from, at_line, aimed, updating, leaves, next_size}
+use Rattle.flash_plan.specs.declared.plan_move.Move.{Move}
+use Rattle.flash_plan.specs.declared.plan_move.Move.TheVariants.{Flashes, Erases, Updates, Boots}
+use Rattle.flash_plan.specs.Moves.{Work, is_logical_move, move_of, moves_from, at_line, aimed, updating, leaves, next_size}
 use Rattle.flash_plan.specs.Targets.{found, found_first, target_in, candidates}
 
 pub or-false : (a b : Bool) → (a || b) ≡ false → (a ≡ false) × (b ≡ false)

@@ -9,6 +9,8 @@ use Rattle.product_info.specs.declared.task.Action.{Action}
 use Rattle.product_info.specs.declared.task.Action.TheVariants.{Flash, Reboot, UpdateSuper, Erase}
 use Rattle.product_info.specs.declared.task.Task.{Task}
 use Rattle.flash_plan.specs.declared.plan.PlanKind.{PlanKind}
+use Rattle.flash_plan.specs.declared.plan_move.Move.{Move}
+use Rattle.flash_plan.specs.declared.plan_move.Move.TheVariants.{Flashes, Erases, Updates, Boots}
 use Rattle.flash_plan.specs.declared.plan.PlanKind.TheVariants as why
 use Rattle.flash_plan.specs.Facts.{Facts}
 use Rattle.flash_plan.specs.Targets.{candidates, target_in}
@@ -23,14 +25,6 @@ pub record Work : Type 0 where
 -- the line of a task, and why no plan is made of it
 abbrev pub PlanFault : Type 0
 PlanFault = ℕ × PlanKind
-
--- A task on a device: the partition that is flashed, whether it is logical, and how long its image is; the
--- one that is erased, and whether it is logical; the name of super; or the reboot.
-pub data Move : Type 0 where
-  Flashes : List ℕ → Bool → ℕ → Move
-  Erases : List ℕ → Bool → Move
-  Updates : List ℕ → Move
-  Boots : BootTarget → Move
 
 -- it is about a logical partition
 abbrev pub is_logical_move : Move → Bool

@@ -15,7 +15,9 @@ use Rattle.flash_plan.specs.declared.plan.Order.TheVariants.{Active, Resize, Put
 use Rattle.flash_plan.specs.declared.plan.PlanKind.TheVariants as why
 use Rattle.flash_plan.specs.Facts.{Facts}
 use Rattle.flash_plan.specs.Targets.{slot_of, is_slotless}
-use Rattle.flash_plan.specs.Moves.{Work, PlanFault, Move, Flashes, Erases, Updates, Boots, is_logical_move}
+use Rattle.flash_plan.specs.declared.plan_move.Move.{Move}
+use Rattle.flash_plan.specs.declared.plan_move.Move.TheVariants.{Flashes, Erases, Updates, Boots}
+use Rattle.flash_plan.specs.Moves.{Work, PlanFault, is_logical_move}
 use Rattle.flash_plan.specs.Moves.{is_flash, leaves, moves_from}
 
 -- the logical partition that is flashed

@@ -1,3 +1,6 @@
+ghost use Rattle.std.specs.Prelude.{◌≡◌};
+ghost use Rattle.flash_plan.specs.Facts.{kind_in};
+
 use fb_frame::items::Items;
 use fb_frame::name::Name;
 use fb_frame::slot::Slot;
@@ -20,4 +23,16 @@ pub struct Answers {
     pub max: u32,
     pub super_name: Option<Name>,
     pub parts: Parts,
+}
+
+/// Whether the partition of the name is logical, where it is one of these.
+pub fn kind_in(parts: &[Part], name: &Name) -> Option<bool>
+    ensures { result ≡ kind_in parts.now name.now }
+{
+    for part in parts {
+        if part.name == *name {
+            return Some(part.logical);
+        }
+    }
+    None
 }

@@ -5,6 +5,7 @@ ghost use Rattle.flash_plan.specs.Laws.{PlansTold, PlanRepeats, PlanLeavesLast, 
 ghost use Rattle.flash_plan.specs.Rows.{Rows};
 
 pub mod answers;
+mod blocks;
 pub mod dir;
 pub mod dir_bytes;
 pub mod folder_dir;
@@ -12,6 +13,12 @@ mod folder_path;
 pub mod memory_dir;
 pub mod options;
 pub mod plan;
+mod plan_listed;
+mod plan_move;
+mod plan_moves;
+pub mod plan_targets;
+#[cfg(test)]
+mod plan_tests;
 pub mod product;
 pub mod read;
 #[cfg(test)]

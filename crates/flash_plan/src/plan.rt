@@ -1,7 +1,20 @@
+ghost use Rattle.std.specs.Prelude.{◌≡◌, ◌≤◌, length, IfOk, Ok, Err};
+ghost use Rattle.std.specs.Result.{IsErrOf};
+ghost use Rattle.flash_plan.specs.Orders.{orders};
+ghost use Rattle.flash_plan.specs.Plans.{work_of};
+ghost use Rattle.flash_plan.specs.Facts.{facts_in};
+
+use crate::answers::Answers;
+use crate::blocks::ordered;
+use crate::options::Options;
+use crate::plan_listed::listed_in;
+use crate::plan_moves::Setting;
+use crate::product::Product;
 use fb_frame::items::Items;
 use fb_frame::name::Name;
 use fb_frame::slot::Slot;
 use fb_message::command::BootTarget;
+use std::alloc::Global;
 
 /// One step of a plan, without the bytes that it brings. The number in `Put` is the place of the flash
 /// task among the product's images.
@@ -31,4 +44,55 @@ pub enum PlanKind {
     UpdateSuper,
     /// The device has no super.
     NoSuper,
+}
+
+/// Why no plan is made.
+#[derive(Debug, Drop)]
+pub enum PlanError {
+    /// There was no memory.
+    Memory,
+    /// No plan is made of this line; 0 stands before all lines.
+    Bad { line: u32, kind: PlanKind },
+}
+
+/// The plan of a product for a device that gave these answers: the step for its slot, the steps of each task
+/// and the reboot at the end, or the first line of which no plan is made, where 0 stands for the choice of the
+/// slot. The partitions are found by the answers and by the tables that the product brings (fastboot README,
+/// flashall).
+pub fn plan(
+    alloc: Global,
+    product: &Product,
+    options: &Options,
+    answers: &Answers,
+) -> Result<Plan, PlanError>
+    requires { length product.now.tasks ≤ 256 }
+    ensures plan { IfOk result
+        (λ plan. orders (work_of product.now) options.now (facts_in answers.now) ≡ Ok plan) }
+    ensures bad { (line : _) (kind : _) → IsErrOf result (PlanError.Bad line kind)
+        → orders (work_of product.now) options.now (facts_in answers.now) ≡ Err (line, kind) }
+{
+    if options.slot.is_slotless(answers.current) {
+        return Err(PlanError::Bad {
+            line: 0,
+            kind: PlanKind::NoSlot,
+        });
+    }
+    let Ok(listed) = listed_in(alloc, product.tasks.as_slice(), &product.empty) else {
+        return Err(PlanError::Memory);
+    };
+    let slot = options.slot.slot(answers.current);
+    let setting = Setting {
+        product,
+        listed: listed.as_slice(),
+        answers,
+        slot,
+    };
+    let moves = match setting.moves(alloc) {
+        Ok(moves) => moves,
+        Err(error) => return Err(error),
+    };
+    let Ok(plan) = ordered(alloc, options, slot, moves.as_slice()) else {
+        return Err(PlanError::Memory);
+    };
+    Ok(plan)
 }
