@@ -1,6 +1,6 @@
-ghost use Rattle.std.specs.Prelude.{◌≡◌, ◌≤◌, ◌++◌, ◌∷◌, [], List, map, length, bytes_eq, if◌then◌else◌, OnOk, IfOk};
+ghost use Rattle.std.specs.Prelude.{◌≡◌, ◌≤◌, ◌++◌, ◌∷◌, [], List, map, length, bytes_eq, filter, not, OnOk, IfOk};
 ghost use Rattle.std.specs.List.{All, list_any};
-ghost use Rattle.flash_plan.specs.Orders.{logical_targets, rises, empties, fits, own, block, blocks, ends_left, ordered};
+ghost use Rattle.flash_plan.specs.Orders.{logical_target, logical_targets, rises, empties, fits, own, block, blocks, ends_left, ordered};
 ghost use Rattle.flash_plan.specs.Planning.{past_of, IsShort};
 
 use crate::options::Options;
@@ -13,15 +13,26 @@ use fb_frame::slot::Slot;
 use fb_message::command::BootTarget;
 use std::alloc::{AllocError, Global};
 
-/// Keeps a name, unless it is kept already.
-fn keep_name(names: &mut Items<Name>, name: Name) -> Result<(), AllocError>
-    ensures { OnOk result (names.new
-        ≡ names.old ++ (if list_any (λ kept. bytes_eq name kept) names.old then [] else name ∷ [])) }
+/// Whether a name is kept already.
+fn is_kept(names: &[Name], name: &Name) -> bool
+    ensures { result ≡ list_any (λ kept. bytes_eq name.now kept) names.now }
 {
-    if names.as_slice().iter().any(|kept| name == *kept) {
+    names.iter().any(|kept| *name == *kept)
+}
+
+/// Keeps the logical partition that a task flashes, unless it is kept already.
+fn keep_target(names: &mut Items<Name>, act: &Move) -> Result<(), AllocError>
+    ensures { OnOk result (names.new ≡ names.old
+        ++ filter (λ name. not (list_any (λ kept. bytes_eq name kept) names.old)) (logical_target act.now)) }
+{
+    let Some(name) = act.logical_target() else {
+        return Ok(());
+    };
+    if is_kept(names.as_slice(), &name) {
         return Ok(());
     }
-    names.push(name)
+    names.push(name)?;
+    Ok(())
 }
 
 /// The logical partitions that are flashed, each once, in the order of their first flash.
@@ -30,14 +41,7 @@ fn logical_targets(alloc: Global, moves: &[Move]) -> Result<Items<Name>, AllocEr
 {
     let mut names = Items::new(alloc);
     for act in moves {
-        if let Move::Flashes {
-            name,
-            logical: true,
-            ..
-        } = act
-        {
-            keep_name(&mut names, *name)?;
-        }
+        keep_target(&mut names, act)?;
     }
     Ok(names)
 }

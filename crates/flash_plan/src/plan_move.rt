@@ -1,6 +1,6 @@
-ghost use Rattle.std.specs.Prelude.{◌≡◌, ◌<◌, ◌^◌, ◌-◌, ◌++◌, ◌∷◌, [], List, Some, if◌then◌else◌};
+ghost use Rattle.std.specs.Prelude.{◌≡◌, ◌<◌, ◌^◌, ◌-◌, ◌++◌, ◌∷◌, [], List, Some, option_to_list, if◌then◌else◌};
 ghost use Rattle.flash_plan.specs.Moves.{is_logical_move, is_flash, leaves};
-ghost use Rattle.flash_plan.specs.Orders.{is_logical_flash, is_turn, is_up, is_left};
+ghost use Rattle.flash_plan.specs.Orders.{logical_target, is_logical_flash, is_turn, is_up, is_left};
 ghost use Rattle.flash_plan.specs.Planning.{past_of};
 
 use fb_frame::name::Name;
@@ -60,6 +60,20 @@ impl Move {
         match self {
             Move::Flashes { logical, .. } => *logical,
             _ => false,
+        }
+    }
+
+    /// The logical partition that is flashed.
+    pub(crate) fn logical_target(&self) -> Option<Name>
+        ensures { option_to_list result ≡ logical_target self.now }
+    {
+        match self {
+            Move::Flashes {
+                name,
+                logical: true,
+                ..
+            } => Some(*name),
+            _ => None,
         }
     }
 

@@ -1,4 +1,4 @@
-ghost use Rattle.std.specs.Prelude.{◌≡◌, ◌≤◌, ◌^◌, ◌&&◌, List, [], map, length, slice_index_or, is_none, IfOk, Ok, Err, if◌then◌else◌};
+ghost use Rattle.std.specs.Prelude.{◌≡◌, ◌≤◌, ◌^◌, ◌&&◌, false, List, [], map, length, slice_index_or, is_none, IfOk, Ok, Err, if◌then◌else◌};
 ghost use Rattle.std.specs.List.{All};
 ghost use Rattle.std.specs.Result.{IsErrOf};
 ghost use Rattle.flash_plan.specs.Facts.{facts_in};
@@ -42,7 +42,8 @@ fn image_len(images: &[Index], place: usize) -> u64
 
 /// The update of super, which stands before all else that is logical.
 fn update(past: &Past, name: Option<Name>) -> Result<Move, PlanKind>
-    ensures { (before : List Move) → past.now ≡ past_of before → result ≡ updating before name }
+    ensures update { (before : List Move) → past.now ≡ past_of before → result ≡ updating before name }
+    ensures short { IfOk result IsShort }
 {
     let Some(name) = name else {
         return Err(PlanKind::NoSuper);
@@ -133,18 +134,19 @@ impl<'a> Setting<'a> {
         let mut moves = Items::new(alloc);
         let mut past = Past::new();
         for (i, task) in tasks.iter().enumerate() {
-            match self.move_of(&past, &tasks[i + 1..], &task.action) {
-                Ok(act) => {
-                    moves.push(act).map_err(|_| PlanError::Memory)?;
-                    past = past.after(&act);
-                }
+            let act = match self.move_of(&past, &tasks[i + 1..], &task.action) {
+                Ok(act) => act,
                 Err(kind) => {
                     return Err(PlanError::Bad {
                         line: task.line,
                         kind,
                     });
                 }
-            }
+            };
+            let Ok(()) = moves.push(act) else {
+                return Err(PlanError::Memory);
+            };
+            past = past.after(&act);
         }
         Ok(moves)
     }

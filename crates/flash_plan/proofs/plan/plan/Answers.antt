@@ -1,0 +1,26 @@
+use Rattle.std.proofs.Common.{◌≡◌, ◌∙◌, sym, ap, Ok, Err}
+use Rattle.flash_plan.specs.declared.plan.PlanError.TheVariants.{Bad}
+use Rattle.flash_plan.specs.Facts.{facts_in}
+use Rattle.flash_plan.specs.Orders.{ordered}
+use Rattle.flash_plan.specs.Plans.{work_of, listed_in}
+use Rattle.flash_plan.proofs.PlanningLemmas.{bad-same, err-same, orders-slotless, orders-are}
+use Rattle.flash_plan.proofs.plan.plan.Goals as goal
+
+pub returns-then-is_slotless-clause-bad : goal.returns-then-is_slotless-clause-bad
+returns-then-is_slotless-clause-bad c = λ line kind e.
+    orders-slotless (work_of c.args.product.now) c.args.options.now (facts_in c.args.answers.now) (sym c.if-is_slotless.ensures) ∙ bad-same _ line _ kind e
+
+pub returns-in-Err-clause-bad : goal.returns-in-Err-clause-bad
+returns-in-Err-clause-bad c = λ line kind e.
+    let product = c.args.product.now in
+    orders-are product c.args.options.now c.args.answers.now c.as_slice-2.result.now c.slot-slot.result (Err (line, kind)) (sym c.if-is_slotless.ensures)
+    (c.as_slice-2.ensures ∙ c.in-Ok.ensures ∙ ap (λ tasks. listed_in tasks product.empty) c.as_slice.ensures) c.slot-slot.ensures
+    (c.in-Err.ensures.bad line kind (err-same c.in-Err.error (Bad line kind) e))
+
+pub returns-clause-plan : goal.returns-clause-plan
+returns-clause-plan c =
+    let product = c.args.product.now in
+    orders-are product c.args.options.now c.args.answers.now c.as_slice-2.result.now c.slot-slot.result (Ok c.in-Ok-moves.moves) (sym c.if-is_slotless.ensures)
+    (c.as_slice-2.ensures ∙ c.in-Ok.ensures ∙ ap (λ tasks. listed_in tasks product.empty) c.as_slice.ensures) c.slot-slot.ensures
+    c.in-Ok-moves.ensures.moves
+    ∙ ap (λ moves. Ok (ordered c.args.options.now c.slot-slot.result moves)) (sym c.as_slice-3.ensures) ∙ ap Ok (sym c.in-Ok-ordered.ensures)
