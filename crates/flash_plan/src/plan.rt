@@ -1,8 +1,10 @@
 ghost use Rattle.std.specs.Prelude.{◌≡◌, ◌≤◌, length, IfOk, Ok, Err};
 ghost use Rattle.std.specs.Result.{IsErrOf};
+ghost use Rattle.dev_model.specs.declared.device.Dev.{Dev};
 ghost use Rattle.flash_plan.specs.Orders.{orders};
 ghost use Rattle.flash_plan.specs.Plans.{work_of};
-ghost use Rattle.flash_plan.specs.Facts.{facts_in};
+ghost use Rattle.flash_plan.specs.Facts.{facts_in, facts_of};
+ghost use Rattle.flash_plan.specs.Questions.{AreAnswers};
 
 use crate::answers::Answers;
 use crate::blocks::ordered;
@@ -70,6 +72,12 @@ pub fn plan(
         (λ plan. orders (work_of product.now) options.now (facts_in answers.now) ≡ Ok plan) }
     ensures bad { (line : _) (kind : _) → IsErrOf result (PlanError.Bad line kind)
         → orders (work_of product.now) options.now (facts_in answers.now) ≡ Err (line, kind) }
+    ensures device { (dev : Dev) → AreAnswers (work_of product.now) options.now.slot dev answers.now
+        → IfOk result (λ plan. orders (work_of product.now) options.now (facts_of dev) ≡ Ok plan) }
+    ensures device_bad { (dev : Dev) (line : _) (kind : _)
+        → AreAnswers (work_of product.now) options.now.slot dev answers.now
+        → IsErrOf result (PlanError.Bad line kind)
+        → orders (work_of product.now) options.now (facts_of dev) ≡ Err (line, kind) }
 {
     if options.slot.is_slotless(answers.current) {
         return Err(PlanError::Bad {

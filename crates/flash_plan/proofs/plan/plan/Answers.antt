@@ -3,6 +3,7 @@ use Rattle.flash_plan.specs.declared.plan.PlanError.TheVariants.{Bad}
 use Rattle.flash_plan.specs.Facts.{facts_in}
 use Rattle.flash_plan.specs.Orders.{ordered}
 use Rattle.flash_plan.specs.Plans.{work_of, listed_in}
+use Rattle.flash_plan.proofs.PlanLemmas.{plans_told}
 use Rattle.flash_plan.proofs.PlanningLemmas.{bad-same, err-same, orders-slotless, orders-are}
 use Rattle.flash_plan.proofs.plan.plan.Goals as goal
 
@@ -24,3 +25,16 @@ returns-clause-plan c =
     (c.as_slice-2.ensures ∙ c.in-Ok.ensures ∙ ap (λ tasks. listed_in tasks product.empty) c.as_slice.ensures) c.slot-slot.ensures
     c.in-Ok-moves.ensures.moves
     ∙ ap (λ moves. Ok (ordered c.args.options.now c.slot-slot.result moves)) (sym c.as_slice-3.ensures) ∙ ap Ok (sym c.in-Ok-ordered.ensures)
+
+-- what is so of the answers is so of the device
+pub returns-then-is_slotless-clause-device_bad : goal.returns-then-is_slotless-clause-device_bad
+returns-then-is_slotless-clause-device_bad c = λ dev line kind h e.
+    sym (plans_told (work_of c.args.product.now) c.args.options.now dev c.args.answers.now h) ∙ returns-then-is_slotless-clause-bad c line kind e
+
+pub returns-in-Err-clause-device_bad : goal.returns-in-Err-clause-device_bad
+returns-in-Err-clause-device_bad c = λ dev line kind h e.
+    sym (plans_told (work_of c.args.product.now) c.args.options.now dev c.args.answers.now h) ∙ returns-in-Err-clause-bad c line kind e
+
+pub returns-clause-device : goal.returns-clause-device
+returns-clause-device c = λ dev h.
+    sym (plans_told (work_of c.args.product.now) c.args.options.now dev c.args.answers.now h) ∙ returns-clause-plan c
