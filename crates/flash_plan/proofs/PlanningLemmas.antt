@@ -1,6 +1,6 @@
 -- What a planner carries from task to task.
-use Rattle.std.proofs.Common.{◌≡◌, ℕ, ◌+◌, ◌-◌, ◌≤◌, ◌<◌, Bool, true, false, cond, Option, Some, None, List, [], ◌∷◌, ◌++◌, length, get_or, take, drop, filter, refl, ap, sym, ◌∙◌, subst, arith, add-one, append-nil}
-use Rattle.std.specs.Prelude.{not, ◌||◌, ◌&&◌, Result, Ok, Err, flat_map, map, slice_get, bytes_eq, if◌then◌else◌}
+use Rattle.std.proofs.Common.{◌≡◌, ℕ, ◌+◌, ◌-◌, ◌≤◌, ◌<◌, Bool, true, false, cond, Option, Some, None, List, [], ◌∷◌, ◌++◌, length, get_or, take, drop, filter, refl, ap, sym, ◌∙◌, arith, add-one, append-nil}
+use Rattle.std.specs.Prelude.{not, ◌||◌, Result, Ok, Err, map, slice_get, if◌then◌else◌}
 use Rattle.std.specs.Option.{option_or}
 use Rattle.std.specs.List.{list_any}
 use Rattle.std.specs.Result.{IsErrOf}
@@ -127,7 +127,7 @@ ends-at moves act e =
     let here : act ≡ get_or moves (length moves - 1) act = some-same (e ∙ slice_get-get_or moves (length moves - 1) act within) in
     let last : (length moves - 1) + 1 ≡ length moves = omega (arith, within) in
     let all : take (length moves - 1) moves ++ act ∷ [] ≡ moves =
-      sym (up-to-here moves (length moves - 1) act within here) ∙ ap (λ n. take n moves) last ∙ take-length moves in
+    sym (up-to-here moves (length moves - 1) act within here) ∙ ap (λ n. take n moves) last ∙ take-length moves in
     sym (left-snoc (take (length moves - 1) moves) act) ∙ ap ends_left all
   where
     some-same : {x y : Move} → Some x ≡ Some y → x ≡ y

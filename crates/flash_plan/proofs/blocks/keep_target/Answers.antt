@@ -1,5 +1,4 @@
-use Rattle.std.proofs.Common.{◌≡◌, ◌++◌, ◌∙◌, sym, ap}
-use Rattle.std.specs.Prelude.{not, filter, List, ℕ}
+use Rattle.std.proofs.Common.{◌++◌, ◌∙◌, sym, ap}
 use Rattle.dev_model.proofs.FirstOnes.{among}
 use Rattle.flash_plan.proofs.PlanningLemmas.{Left, kept-already, kept-new}
 use Rattle.flash_plan.proofs.blocks.keep_target.Goals as goal

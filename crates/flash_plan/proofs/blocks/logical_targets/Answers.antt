@@ -1,4 +1,4 @@
-use Rattle.std.proofs.Common.{◌≡◌, ◌++◌, drop, ap, ◌∙◌, ◌+◌, sym}
+use Rattle.std.proofs.Common.{drop, ap, ◌∙◌, ◌+◌, sym}
 use Rattle.std.specs.Prelude.{flat_map}
 use Rattle.dev_model.proofs.FirstOnes.{first_begin}
 use Rattle.flash_plan.specs.Orders.{logical_target, logical_targets}

@@ -1,4 +1,4 @@
-use Rattle.std.proofs.Common.{◌≡◌, ◌∙◌, sym, ap, Ok, Err}
+use Rattle.std.proofs.Common.{◌∙◌, sym, ap, Ok, Err}
 use Rattle.flash_plan.specs.declared.plan.PlanError.TheVariants.{Bad}
 use Rattle.flash_plan.specs.Facts.{facts_in}
 use Rattle.flash_plan.specs.Orders.{ordered}

@@ -1,6 +1,4 @@
-use Rattle.std.proofs.Common.{◌≡◌, ◌++◌, ◌∷◌, [], ◌∙◌, rules}
-use Rattle.flash_plan.specs.Moves.{is_logical_move, is_flash}
-use Rattle.flash_plan.specs.Orders.{is_logical_flash}
+use Rattle.std.proofs.Common.{◌∙◌, rules}
 use Rattle.flash_plan.proofs.PlanningLemmas.{past-after, or-first, or-second}
 use Rattle.flash_plan.proofs.plan_move.Past.after.Goals as goal
 use Rattle.flash_plan.proofs.plan_move.Past.after.Goals.{then-self, else-self, then-self-2, else-self-2}

@@ -1,4 +1,4 @@
-use Rattle.std.proofs.Common.{◌≡◌, ◌∙◌, ◌+◌, ◌<◌, ◌++◌, ◌∷◌, [], length, drop, ap, sym, subst, arith, length-append}
+use Rattle.std.proofs.Common.{◌≡◌, ◌∙◌, ◌+◌, ◌++◌, ◌∷◌, [], length, drop, ap, sym, subst, arith, length-append}
 use Rattle.std.specs.Prelude.{List}
 use Rattle.std.specs.List.{All}
 use Rattle.std.proofs.lemmas.List.Elements.{All-push}
@@ -25,8 +25,9 @@ loop-i-preserved c =
     let slice = ap (λ tasks. moves_from (work_in setting) facts setting.slot c.push.new.self (drop (c.loop-i.i + 1) tasks)) (sym c.as_slice-tasks.ensures) in
     let before = ap (λ tasks. moves_from (work_in setting) facts setting.slot c.loop-i.moves (drop c.loop-i.i tasks)) c.as_slice-tasks.ensures in
     let next = moves-next (work_in setting) facts setting.slot c.loop-i.moves c.push.new.self c.as_slice-tasks.result.now c.loop-i.i c.index-tasks-i.result c.in-Ok.act
-      c.loop-i-test.true c.index-tasks-i.is (sym (c.in-Ok.ensures.task c.loop-i.moves c.loop-i.invariant.2)) pushed in
-    (omega (arith, long),
-    subst P (sym pushed) (All-push IsShort c.loop-i.moves c.in-Ok.act c.loop-i.invariant.1 c.in-Ok.ensures.short),
-    c.after-past.ensures c.loop-i.moves c.loop-i.invariant.2 ∙ ap past_of (sym pushed),
-    slice ∙ next ∙ before ∙ c.loop-i.invariant.3)
+    c.loop-i-test.true c.index-tasks-i.is (sym (c.in-Ok.ensures.task c.loop-i.moves c.loop-i.invariant.2)) pushed in (
+      omega (arith, long),
+      subst P (sym pushed) (All-push IsShort c.loop-i.moves c.in-Ok.act c.loop-i.invariant.1 c.in-Ok.ensures.short),
+      c.after-past.ensures c.loop-i.moves c.loop-i.invariant.2 ∙ ap past_of (sym pushed),
+      slice ∙ next ∙ before ∙ c.loop-i.invariant.3,
+    )
