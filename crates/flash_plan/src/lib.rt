@@ -10,6 +10,9 @@ pub mod dir;
 pub mod dir_bytes;
 pub mod folder_dir;
 mod folder_path;
+pub mod inspect;
+#[cfg(test)]
+mod inspect_tests;
 pub mod memory_dir;
 pub mod options;
 pub mod plan;

@@ -1,4 +1,5 @@
 use fb_frame::items::Items;
+use fb_frame::word::Word;
 use product_info::info::InfoKind;
 use product_info::requirement::Requirements;
 use product_info::task::Tasks;
@@ -7,7 +8,7 @@ use sparse_image::index::Index;
 use super_meta::errors::MetaError;
 
 /// What is wrong with a file of a product.
-#[derive(Clone, Copy, Debug)]
+#[derive(Clone, Copy, Debug, PartialEq, Eq)]
 pub enum Flaw {
     /// There is no such file.
     Absent,
@@ -21,6 +22,17 @@ pub enum Flaw {
     Image(SparseError),
     /// The file is no image of an empty super.
     Meta(MetaError),
+}
+
+/// Why a folder is taken for no product.
+#[derive(Debug, Drop)]
+pub enum ProductError {
+    /// There was no memory.
+    Memory,
+    /// The folder failed while this file was looked at.
+    Directory(Word),
+    /// This file is the first with a flaw.
+    Bad(Word, Flaw),
 }
 
 /// The bytes of super_empty.img.

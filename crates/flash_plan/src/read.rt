@@ -21,6 +21,9 @@ pub enum ReadError {
     Memory,
 }
 
+/// The most bytes that are asked for at once.
+const MOST_READ: usize = 65_536;
+
 /// Fills the buffer with the whole of a file, which has as many bytes.
 #[tactic(auto, using(crate::proofs::ReadLemmas::reads_all))]
 pub fn read_all<D: ProductDir>(dir: &mut D, name: &[u8], buf: &mut [u8]) -> Result<(), DirFault>
@@ -36,7 +39,8 @@ pub fn read_all<D: ProductDir>(dir: &mut D, name: &[u8], buf: &mut [u8]) -> Resu
 {
     let mut at = 0;
     while at < buf.len() {
-        at += dir.read_at(name, at as u64, &mut buf[at..])?;
+        let most = (buf.len() - at).min(MOST_READ);
+        at += dir.read_at(name, at as u64, &mut buf[at..at + most])?;
     }
     Ok(())
 }
