@@ -1,13 +1,16 @@
 -- What an inspection of a folder answers: what a file or the whole folder holds, or why it stops; and what was
 -- gathered of the first tasks.
-use Rattle.std.specs.Prelude.{◌≡◌, ℕ, ◌+◌, ◌≤◌, not, ◌||◌, List, [], ◌∷◌, ◌++◌, length, flat_map}
+use Rattle.std.specs.Prelude.{Bool, ◌≡◌, ℕ, ◌+◌, ◌≤◌, not, ◌||◌, List, [], ◌∷◌, ◌++◌, length, flat_map}
 use Rattle.std.specs.Prelude.{Option, Some, None, is_some, IsTrue, IfSome, Result, Ok, Err}
 use Rattle.std.specs.List.{list_any, sum_by}
 use Rattle.std.specs.Option.{option_or}
 use Rattle.fb_frame.specs.Causes.{Rose}
 use Rattle.product_info.specs.declared.requirement.Requirement.{Requirement}
 use Rattle.product_info.specs.declared.task.Action.{Action}
+use Rattle.product_info.specs.declared.task.Action.TheVariants.{Flash, Reboot, UpdateSuper, Erase}
 use Rattle.product_info.specs.declared.task.Task.{Task}
+use Rattle.dev_model.specs.Repeats.{is_among}
+use Rattle.flash_plan.specs.Products.{tasks_left}
 use Rattle.product_info.specs.RequirementText.{requirements}
 use Rattle.product_info.specs.TaskText.{tasks}
 use Rattle.sparse_image.specs.declared.errors.SparseError.{SparseError}
@@ -32,6 +35,31 @@ abbrev pub Stops : {X : Type 0} → Option Files → (Files → Result X Fault) 
 Stops told held before now Memory = Unit {0}
 Stops told held before now (Directory file) = Rose before now
 Stops told held before now (Bad file flaw) = OfFiles told (λ files. held files ≡ Err (file, flaw))
+
+-- where the folder failed, it failed at one of these files
+abbrev pub FailsAmong : List (List ℕ) → ProductError → Type 0
+FailsAmong names Memory = Unit {0}
+FailsAmong names (Directory file) = IsTrue (is_among names file)
+FailsAmong names (Bad file flaw) = Unit {0}
+
+-- the files of a task
+abbrev pub files_of_action : Action → List (List ℕ)
+files_of_action (Flash name file other) = file ∷ []
+files_of_action UpdateSuper = super_file ∷ []
+files_of_action (Reboot what) = []
+files_of_action (Erase name) = []
+
+abbrev pub task_files : List Task → List (List ℕ)
+task_files list = flat_map (λ task. files_of_action task.action) list
+
+-- the files of a folder that are looked at, up to the first flaw: both info files, and those of the tasks that
+-- aren't skipped
+abbrev pub looked_by : Bool → Result (List Task) Flaw → List (List ℕ)
+looked_by wipe (Err flaw) = requirements_file ∷ tasks_file ∷ []
+looked_by wipe (Ok all) = requirements_file ∷ tasks_file ∷ task_files (tasks_left wipe all)
+
+abbrev pub looked_at : Bool → Files → List (List ℕ)
+looked_at wipe files = looked_by wipe (info_of tasks (files tasks_file))
 
 -- what stands in a file, or the file with its flaw
 abbrev pub in_file : {X : Type 0} → List ℕ → Result X Flaw → Result X Fault

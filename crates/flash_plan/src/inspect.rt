@@ -3,9 +3,10 @@ ghost use Rattle.std.specs.List.{list_all};
 ghost use Rattle.std.specs.Result.{IsErrOf};
 ghost use Rattle.fb_frame.specs.Causes.{Rose};
 ghost use Rattle.product_info.specs.declared.task.Task.{Task};
+ghost use Rattle.dev_model.specs.Repeats.{is_among};
 ghost use Rattle.flash_plan.specs.Files.{HasSize, IsFileName, is_file_name};
 ghost use Rattle.flash_plan.specs.Products.{Brought, OfFiles, IsWhole, product_of, brought_by, brought_for, tasks_left, image_file, requirements_file, tasks_file, super_file, holds_tables};
-ghost use Rattle.flash_plan.specs.Inspecting.{Finds, Stops, text_in, requirements_in, tasks_in, kept_in, image_in, empty_in, and_image, and_empty, brought_after, Takes, IsGathered};
+ghost use Rattle.flash_plan.specs.Inspecting.{Finds, Stops, FailsAmong, files_of_action, task_files, looked_at, text_in, requirements_in, tasks_in, kept_in, image_in, empty_in, and_image, and_empty, brought_after, Takes, IsGathered};
 
 use crate::dir::{DirFault, ProductDir};
 use crate::dir_bytes::DirBytes;
@@ -52,7 +53,7 @@ fn super_file() -> Word
 }
 
 /// The bytes of a file, at most so many.
-#[tactic(auto, using(crate::proofs::InspectLemmas::texts))]
+#[tactic(auto, using(crate::proofs::InspectLemmas::texts, crate::proofs::InspectFails::fails))]
 fn read_text<D: ProductDir>(
     alloc: Global,
     dir: &mut D,
@@ -65,6 +66,7 @@ fn read_text<D: ProductDir>(
     ensures short { IfOk result (λ text. length text ≤ most) }
     ensures stops { IfErr result (λ e.
         Stops (D.files dir.old) (text_in file most) (D.faults dir.old) (D.faults dir.new) e) }
+    ensures fails { IfErr result (λ e. FailsAmong (file ∷ []) e) }
     ensures entered { D.entered dir.new ≡ D.entered dir.old }
     ensures path { D.told_path dir.new ≡ D.told_path dir.old }
     ensures files { D.files dir.new ≡ D.files dir.old }
@@ -81,7 +83,7 @@ fn read_text<D: ProductDir>(
 }
 
 /// The requirements of android-info.txt.
-#[tactic(auto, using(crate::proofs::InspectLemmas::wanted))]
+#[tactic(auto, using(crate::proofs::InspectLemmas::wanted, crate::proofs::InspectFails::fails))]
 fn inspect_requirements<D: ProductDir>(
     alloc: Global,
     dir: &mut D,
@@ -91,6 +93,7 @@ fn inspect_requirements<D: ProductDir>(
     ensures few { IfOk result (λ list. length list ≤ 256) }
     ensures stops { IfErr result (λ e.
         Stops (D.files dir.old) requirements_in (D.faults dir.old) (D.faults dir.new) e) }
+    ensures fails { IfErr result (λ e. FailsAmong (requirements_file ∷ []) e) }
     ensures entered { D.entered dir.new ≡ D.entered dir.old }
     ensures path { D.told_path dir.new ≡ D.told_path dir.old }
     ensures files { D.files dir.new ≡ D.files dir.old }
@@ -109,7 +112,7 @@ fn inspect_requirements<D: ProductDir>(
 }
 
 /// All tasks of fastboot-info.txt.
-#[tactic(auto, using(crate::proofs::InspectLemmas::listed))]
+#[tactic(auto, using(crate::proofs::InspectLemmas::listed, crate::proofs::InspectFails::fails))]
 fn inspect_tasks<D: ProductDir>(alloc: Global, dir: &mut D) -> Result<Tasks, ProductError>
     requires entered { IsTrue (D.entered dir.old) }
     ensures found { IfOk result (λ list. Finds (D.files dir.old) tasks_in list) }
@@ -117,6 +120,7 @@ fn inspect_tasks<D: ProductDir>(alloc: Global, dir: &mut D) -> Result<Tasks, Pro
     ensures names { IfOk result (λ list. IsTrue (list_all is_file_name (flat_map image_file list))) }
     ensures stops { IfErr result (λ e.
         Stops (D.files dir.old) tasks_in (D.faults dir.old) (D.faults dir.new) e) }
+    ensures fails { IfErr result (λ e. FailsAmong (tasks_file ∷ []) e) }
     ensures entered { D.entered dir.new ≡ D.entered dir.old }
     ensures path { D.told_path dir.new ≡ D.told_path dir.old }
     ensures files { D.files dir.new ≡ D.files dir.old }
@@ -144,7 +148,7 @@ fn keep_tasks(tasks: Tasks, wipe: bool) -> Tasks
 }
 
 /// What is kept of an image file of `len` bytes, which is looked at through a window.
-#[tactic(auto, using(crate::proofs::InspectImages::checks))]
+#[tactic(auto, using(crate::proofs::InspectImages::checks, crate::proofs::InspectFails::fails))]
 fn check_image<D: ProductDir>(
     alloc: Global,
     dir: &mut D,
@@ -158,6 +162,7 @@ fn check_image<D: ProductDir>(
     ensures few { IfOk result (λ index. length index.chunks ≤ 1000000) }
     ensures stops { IfErr result (λ e.
         Stops (D.files dir.old) (kept_in file) (D.faults dir.old) (D.faults dir.new) e) }
+    ensures fails { IfErr result (λ e. FailsAmong (file ∷ []) e) }
     ensures entered { D.entered dir.new ≡ D.entered dir.old }
     ensures path { D.told_path dir.new ≡ D.told_path dir.old }
     ensures files { D.files dir.new ≡ D.files dir.old }
@@ -188,7 +193,7 @@ fn within_limit(file: Word, chunks: u32, index: Index) -> Result<Index, ProductE
 }
 
 /// What is kept of an image after others with so many chunks.
-#[tactic(auto, using(crate::proofs::InspectImages::images))]
+#[tactic(auto, using(crate::proofs::InspectImages::images, crate::proofs::InspectFails::fails))]
 fn inspect_image<D: ProductDir>(
     alloc: Global,
     dir: &mut D,
@@ -202,6 +207,7 @@ fn inspect_image<D: ProductDir>(
     ensures few { IfOk result (λ index. chunks + length index.chunks ≤ 4000000) }
     ensures stops { IfErr result (λ e.
         Stops (D.files dir.old) (image_in file chunks) (D.faults dir.old) (D.faults dir.new) e) }
+    ensures fails { IfErr result (λ e. FailsAmong (file ∷ []) e) }
     ensures entered { D.entered dir.new ≡ D.entered dir.old }
     ensures path { D.told_path dir.new ≡ D.told_path dir.old }
     ensures files { D.files dir.new ≡ D.files dir.old }
@@ -219,13 +225,14 @@ fn inspect_image<D: ProductDir>(
 }
 
 /// The bytes of super_empty.img, which holds tables.
-#[tactic(auto, using(crate::proofs::InspectImages::empties))]
+#[tactic(auto, using(crate::proofs::InspectImages::empties, crate::proofs::InspectFails::fails))]
 fn inspect_empty<D: ProductDir>(alloc: Global, dir: &mut D) -> Result<EmptyImage, ProductError>
     requires entered { IsTrue (D.entered dir.old) }
     ensures found { IfOk result (λ file. Finds (D.files dir.old) empty_in file) }
     ensures tables { IfOk result (λ file. IsTrue (holds_tables file)) }
     ensures stops { IfErr result (λ e.
         Stops (D.files dir.old) empty_in (D.faults dir.old) (D.faults dir.new) e) }
+    ensures fails { IfErr result (λ e. FailsAmong (super_file ∷ []) e) }
     ensures entered { D.entered dir.new ≡ D.entered dir.old }
     ensures path { D.told_path dir.new ≡ D.told_path dir.old }
     ensures files { D.files dir.new ≡ D.files dir.old }
@@ -271,7 +278,7 @@ impl Gathered {
     }
 
     /// Adds the file of a task.
-    #[tactic(auto, using(crate::proofs::InspectTasks::takes))]
+    #[tactic(auto, using(crate::proofs::InspectTasks::takes, crate::proofs::InspectFails::fails))]
     fn take_task<D: ProductDir>(
         &mut self,
         alloc: Global,
@@ -286,6 +293,7 @@ impl Gathered {
             → IsGathered (tasks ++ task.now ∷ []) self.new) }
         ensures stops { (later : _) → IfErr result (λ e. Stops (D.files dir.old)
             (brought_after self.old task.now.action later) (D.faults dir.old) (D.faults dir.new) e) }
+        ensures fails { IfErr result (λ e. FailsAmong (files_of_action task.now.action) e) }
         ensures entered { D.entered dir.new ≡ D.entered dir.old }
         ensures path { D.told_path dir.new ≡ D.told_path dir.old }
         ensures files { D.files dir.new ≡ D.files dir.old }
@@ -322,6 +330,7 @@ fn gather<D: ProductDir>(
     ensures gathered { IfOk result (λ gathered. IsGathered tasks.now gathered) }
     ensures stops { IfErr result (λ e. Stops (D.files dir.old) (λ files. brought_by files 0 tasks.now)
         (D.faults dir.old) (D.faults dir.new) e) }
+    ensures fails { IfErr result (λ e. FailsAmong (task_files tasks.now) e) }
     ensures entered { D.entered dir.new ≡ D.entered dir.old }
     ensures path { D.told_path dir.new ≡ D.told_path dir.old }
     ensures files { D.files dir.new ≡ D.files dir.old }
@@ -351,6 +360,8 @@ fn inspect_folder<D: ProductDir>(
     ensures whole { IfOk result (λ p. IsWhole p) }
     ensures stops { IfErr result (λ e. Stops (D.files dir.old) (λ files. product_of files wipe)
         (D.faults dir.old) (D.faults dir.new) e) }
+    ensures fails { IfErr result (λ e.
+        OfFiles (D.files dir.old) (λ files. FailsAmong (looked_at wipe files) e)) }
     ensures entered { D.entered dir.new ≡ D.entered dir.old }
     ensures path { D.told_path dir.new ≡ D.told_path dir.old }
     ensures files { D.files dir.new ≡ D.files dir.old }
@@ -373,7 +384,7 @@ fn inspect_folder<D: ProductDir>(
 /// Inspects the folder: android-info.txt, fastboot-info.txt, and then the files of its tasks in their
 /// order, images through a window. Tasks for a run that wipes are left out of a run that doesn't, and
 /// their files aren't looked at.
-#[tactic(auto, using(crate::proofs::InspectTasks::answers))]
+#[tactic(auto, using(crate::proofs::InspectTasks::answers, crate::proofs::InspectFails::names))]
 pub fn inspect<D: ProductDir>(
     alloc: Global,
     dir: &mut D,
@@ -387,6 +398,8 @@ pub fn inspect<D: ProductDir>(
         → OfFiles (D.files dir.old) (λ files. product_of files wipe ≡ Err (file, flaw)) }
     ensures directory { (file : _) → IsErrOf result (ProductError.Directory file)
         → Rose (D.faults dir.old) (D.faults dir.new) }
+    ensures looked { (file : _) → IsErrOf result (ProductError.Directory file)
+        → OfFiles (D.files dir.old) (λ files. IsTrue (is_among (looked_at wipe files) file)) }
     ensures entered { D.entered dir.new ≡ D.entered dir.old }
     ensures path { D.told_path dir.new ≡ D.told_path dir.old }
     ensures files { D.files dir.new ≡ D.files dir.old }

@@ -54,13 +54,13 @@ fn name(text: &str) -> Result<Name, Fail> {
     Ok(Name::read(text.as_bytes()).ok_or("a name")?)
 }
 
-/// The tables of the falcon's empty super, with these extents for its first partition.
-fn falcon_table(alloc: Global, extents: &[Extent]) -> Result<Table, Fail> {
+/// The tables of the falcon's empty super, with this extent for its first partition.
+fn falcon_table(alloc: Global, extent: Option<Extent>) -> Result<Table, Fail> {
     let mut table = Table {
         minor: 0,
         flags: 0,
         partitions: Vec::new(alloc),
-        extents: extents.to_vec(alloc)?,
+        extents: Vec::new(alloc),
         groups: Vec::new(alloc),
         device: BlockDevice {
             first_sector: 640,
@@ -70,16 +70,20 @@ fn falcon_table(alloc: Global, extents: &[Extent]) -> Result<Table, Fail> {
             name: name("super")?,
         },
     };
-    let mut count = extents.len() as u32;
-    let mut first = 0;
-    for (text, group) in [
-        ("system_a", 1),
-        ("vendor_a", 1),
-        ("product_a", 1),
-        ("system_b", 2),
-        ("vendor_b", 2),
-        ("product_b", 2),
-    ] {
+    let mut count = 0;
+    if let Some(extent) = extent {
+        table.extents.push(extent)?;
+        count = 1;
+    }
+    let partitions = [
+        ("system_a", 0, count, 1),
+        ("vendor_a", count, 0, 1),
+        ("product_a", count, 0, 1),
+        ("system_b", count, 0, 2),
+        ("vendor_b", count, 0, 2),
+        ("product_b", count, 0, 2),
+    ];
+    for (text, first, count, group) in partitions {
         table.partitions.push(Partition {
             name: name(text)?,
             attributes: 0,
@@ -87,8 +91,6 @@ fn falcon_table(alloc: Global, extents: &[Extent]) -> Result<Table, Fail> {
             count,
             group,
         })?;
-        first = extents.len() as u32;
-        count = 0;
     }
     for (text, limit) in [("default", 0), ("main_a", 1_048_576), ("main_b", 1_048_576)] {
         table.groups.push(Group {
@@ -99,8 +101,8 @@ fn falcon_table(alloc: Global, extents: &[Extent]) -> Result<Table, Fail> {
     Ok(table)
 }
 
-/// The falcon's super_empty.img, with these extents.
-fn super_empty(alloc: Global, extents: &[Extent]) -> Result<Vec<u8>, Fail> {
+/// The falcon's super_empty.img, with this extent.
+fn super_empty(alloc: Global, extent: Option<Extent>) -> Result<Vec<u8>, Fail> {
     let geometry = Geometry {
         max_size: 65_536,
         slots: 2,
@@ -110,7 +112,7 @@ fn super_empty(alloc: Global, extents: &[Extent]) -> Result<Vec<u8>, Fail> {
     if geometry.is_good() {
         write_geometry(&geometry, &mut block);
     }
-    let table = falcon_table(alloc, extents)?;
+    let table = falcon_table(alloc, extent)?;
     let mut room = [0; 4096];
     let size = if table.is_sound() {
         write_table(&table, &mut room)
@@ -175,7 +177,7 @@ fn falcon(
             &mut files,
             alloc,
             "super_empty.img",
-            super_empty(alloc, &[])?,
+            super_empty(alloc, None)?,
         )?;
     }
     Ok(MemoryDir::new(alloc, "out", files, fails.to_vec(alloc)?)?)
@@ -225,13 +227,13 @@ fn inspects_the_falcon(rt: HostRuntime) -> Result<(), Fail> {
 #[test]
 fn refuses_flawed_products(rt: HostRuntime) -> Result<(), Fail> {
     let alloc = rt.alloc();
-    let mut spoilt = super_empty(alloc, &[])?;
+    let mut spoilt = super_empty(alloc, None)?;
     spoilt.truncate(4743);
     let extent = Extent {
         sectors: 8,
         target: 640,
     };
-    let filled = super_empty(alloc, &[extent])?;
+    let filled = super_empty(alloc, Some(extent))?;
     let crc = crc_file(alloc)?;
     let mut long = Vec::new(alloc);
     long.resize(131_073, 0)?;

@@ -4,6 +4,7 @@ use Rattle.flash_plan.specs.Files.{Files}
 use Rattle.flash_plan.specs.Inspecting.{Stops, Takes, IsGathered, brought_after}
 use Rattle.product_info.specs.declared.task.Task.{Task}
 use Rattle.flash_plan.proofs.InspectTasks.{continues-next, continues-stop, drop-item, take-item, named-item}
+use Rattle.flash_plan.proofs.InspectFails.{fails-item}
 use Rattle.flash_plan.proofs.inspect.gather.Goals as goal
 
 pub take_task-requires-clause-names : goal.take_task-requires-clause-names
@@ -33,3 +34,9 @@ loop-task-preserved g c =
       gathered = subst (λ (xs : List Task). IsGathered xs c.take_task.new.self) (take-item c.args.tasks.now c.loop-task.task-index c.task-item.result (omega arith) c.task-item.is)
           (c.in_ok-take_task.ensures.gathered (take c.loop-task.task-index c.args.tasks.now) c.loop-task.invariant.gathered);
     }
+
+pub returns-in_err-take_task-clause-fails : goal.returns-in_err-take_task-clause-fails
+returns-in_err-take_task-clause-fails g c =
+    let p = err_from_is_err_and c.from_residual.result c.from_residual.ensures.1 in
+    rw (p.1, p.2)
+    (fails-item c.args.tasks.now c.loop-task.task-index c.task-item.result c.in_err-take_task.field-0.0 (omega arith) c.task-item.is c.in_err-take_task.ensures.fails)
