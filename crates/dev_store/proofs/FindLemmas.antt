@@ -1,5 +1,5 @@
 -- Names in two parts, and rows that are looked for.
-use Rattle.std.proofs.Common.{◌≡◌, ◌∙◌, refl, ap, sym, subst, ℕ, zero, suc, ◌+◌, ◌≤◌, Bool, true, false, List, [], ◌∷◌, ◌++◌, map, length, take, drop, Option, Some, None, append-nil, if◌then◌else◌, arith, ◌<◌, length-append}
+use Rattle.std.proofs.Common.{◌≡◌, ◌∙◌, refl, ap, sym, ℕ, zero, suc, ◌+◌, ◌≤◌, Bool, true, false, List, [], ◌∷◌, ◌++◌, map, length, take, drop, Some, None, append-nil, if◌then◌else◌, arith, ◌<◌, length-append}
 use Rattle.std.specs.Prelude.{◌||◌, bytes_eq, slice_get, filter_map}
 use Rattle.std.specs.List.{list_any}
 use Rattle.std.specs.Map.{lookup}
@@ -7,6 +7,7 @@ use Rattle.std.proofs.lemmas.List.{drop_at, take_at, take-append-drop}
 use Rattle.std.proofs.lemmas.Slice.Eq.{bytes_eq-Decides}
 use Rattle.dev_model.specs.declared.device.Dev.{Dev}
 use Rattle.dev_model.specs.Texts.{AreShortRows}
+use Rattle.dev_store.specs.StoreCalls.{info_text}
 use Rattle.dev_model.specs.Variables.{Row as NamedText, plain_rows, all_rows, has_slot_row, base_names}
 
 same-truth : (a b : Bool) → (a ≡ true → b ≡ true) → (b ≡ true → a ≡ true) → a ≡ b
@@ -81,3 +82,15 @@ found-short test (r ∷ rows) text h e = by (test r.0) (found-short test rows te
   by : (b : Bool) → (Some text ≡ lookup test rows → length text ≤ 251) → Some text ≡ (if b then Some r.1 else lookup test rows) → length text ≤ 251
   by true more k = let s : text ≡ r.1 = cc in let l = h.0 in let e = ap (length {A = ℕ}) s in omega arith
   by false more k = more k
+
+-- a row of short rows is short
+pub row-short : (rows : List NamedText) (i : ℕ) (r : NamedText) → AreShortRows rows → Some r ≡ slice_get rows i → length (info_text r) ≤ 252
+row-short [] i r h e = absurd cc
+row-short (x ∷ rows) zero r h e =
+    let s : r ≡ x = cc in
+    let l = h.0 in
+    let m = length-append r.0 (58 ∷ r.1) in
+    let n = ap (λ (y : NamedText). length y.0) s in
+    let k = ap (λ (y : NamedText). length y.1) s in
+    omega arith
+row-short (x ∷ rows) (suc i) r h e = row-short rows i r h.1 e

@@ -1,5 +1,5 @@
 -- Rows at places of lists that are joined.
-use Rattle.std.proofs.Common.{◌≡◌, ◌∙◌, refl, ap, sym, subst, ℕ, zero, suc, ◌+◌, ◌-◌, ◌*◌, ◌/◌, ◌%◌, ◌<◌, ◌≤◌, Bool, true, false, not, List, [], ◌∷◌, ◌++◌, map, length, get_or, append_assoc, arith}
+use Rattle.std.proofs.Common.{◌≡◌, ◌∙◌, ap, sym, subst, ℕ, zero, suc, ◌+◌, ◌-◌, ◌*◌, ◌/◌, ◌%◌, ◌<◌, ◌≤◌, Bool, not, List, [], ◌∷◌, ◌++◌, map, length, get_or, append_assoc, arith}
 use Rattle.std.specs.Prelude.{slice_get, codes, flat_map, if◌then◌else◌, Some, Option}
 use Rattle.std.specs.List.{AllByRecursion}
 use Rattle.std.proofs.lemmas.List.{length-replicate}
@@ -9,11 +9,8 @@ use Rattle.fb_frame.specs.Numbers.{size_text}
 use Rattle.fb_frame.specs.Slots.{letter}
 use Rattle.dev_model.specs.Partitions.{has_slots, is_userspace}
 use Rattle.dev_model.specs.Variables.{Row as NamedText, yes_or_no, with_slots_only, partition_rows}
-use Rattle.dev_store.specs.declared.variables_row.Row.{Row}
-use Rattle.dev_store.specs.declared.variables_row.Step.{Step}
-use Rattle.dev_store.specs.declared.variables_row.Step.TheVariants.{Found, Later}
 use Rattle.dev_store.specs.declared.variables_row.Facts.{Facts}
-use Rattle.dev_store.specs.ToldRows.{row_of, stepped, told_device}
+use Rattle.dev_store.specs.ToldRows.{told_device}
 
 -- the row of a list stands where it stands in the whole
 pub found-first : (a b : List NamedText) (p : ℕ) {v : NamedText} → ((more : List NamedText) → slice_get (a ++ more) p ≡ Some v) → (more : List NamedText) → slice_get ((a ++ b) ++ more) p ≡ Some v

@@ -1,10 +1,11 @@
 -- Laws of device images, which `laws` of this crate names.
 use Rattle.std.specs.Option.{option_or}
 use Rattle.std.specs.Prelude.{◌≡◌, ◌⊎◌, ℕ, Bool, List, Some, option_map, option_and_then, Ok, IsTrue}
-use Rattle.std.specs.Prelude.{IsFalse, length, ◌==◌, None, ◌≢◌, ◌+◌, ◌≤◌}
+use Rattle.std.specs.Prelude.{IsFalse, length, ◌==◌, ◌≢◌, ◌+◌, ◌≤◌}
 use Rattle.dev_model.specs.declared.device.Dev.{Dev}
 use Rattle.dev_model.specs.Partitions.{with_mode, is_userspace, is_super}
 use Rattle.dev_model.specs.Validity.{IsValid}
+use Rattle.dev_model.specs.Variables.{value, all_rows}
 use Rattle.dev_model.specs.Refusals.{create_refusal, delete_refusal, resize_refusal, update_refusal}
 use Rattle.unit_alloc.specs.Owning.{times_in}
 use Rattle.super_meta.specs.Held.{tables_of_image}
@@ -23,7 +24,8 @@ use Rattle.dev_store.specs.Changes.{install_flaw}
 use Rattle.dev_store.specs.Held.{zeroed}
 use Rattle.dev_store.specs.NewDevice.{made_image}
 use Rattle.dev_store.specs.Opening.{IsMade}
-use Rattle.dev_disk.specs.Files.{Tears, StaysTorn, unchanged}
+use Rattle.dev_store.specs.StoreCalls.{names_of}
+use Rattle.dev_disk.specs.Files.{unchanged}
 use Rattle.dev_disk.specs.Honest.{ReadsAs}
 use Rattle.dev_store.specs.Faults.{IsHonest}
 
@@ -130,3 +132,13 @@ OwnsOnce = (file : List ℕ) (dev : Dev) (name other : List ℕ) (unit : ℕ) �
 abbrev pub MadeStands : Type 0
 MadeStands = (text : List ℕ) (layout : LayoutValue) (unlocked : Bool) → layout_of text ≡ Ok layout →
     IsMade layout unlocked (made_image layout unlocked)
+
+-- What a device with zeros tells.
+pub record TellsSame (dev now : Dev) : Type 0 where
+  pub value : (name : List ℕ) → value now name ≡ value dev name
+  pub all : all_rows now ≡ all_rows dev
+  pub names : names_of now ≡ names_of dev
+
+-- A device with zeros tells what the device does.
+abbrev pub ZeroedTells : Type 0
+ZeroedTells = (dev : Dev) → TellsSame dev (zeroed dev)

@@ -1,6 +1,7 @@
 -- Variables as a store tells them, row by row.
-use Rattle.std.specs.Prelude.{ℕ, ◌<◌, ◌≤◌, ◌^◌, List, [], ◌++◌, length, map, take, drop, Option, Some, None, slice_get, decimal, IsTrue}
-use Rattle.std.specs.List.{list_all, AllByRecursion}
+use Rattle.std.specs.Prelude.{◌≡◌, ℕ, ◌<◌, ◌≤◌, ◌^◌, Bool, List, [], ◌++◌, length, map, take, drop, Option, Some, None}
+use Rattle.std.specs.Prelude.{option_map, slice_get, decimal}
+use Rattle.std.specs.List.{AllByRecursion}
 use Rattle.fb_frame.specs.Bytes.{zeros}
 use Rattle.fb_frame.specs.Numbers.{size_text}
 use Rattle.dev_model.specs.declared.device.Dev.{Dev}
@@ -17,7 +18,10 @@ use Rattle.dev_store.specs.declared.variables_row.Row.{Row}
 use Rattle.dev_store.specs.declared.variables_row.Step.{Step}
 use Rattle.dev_store.specs.declared.variables_row.Step.TheVariants.{Found, Later}
 use Rattle.dev_store.specs.declared.variables_row.Facts.{Facts}
-use Rattle.dev_store.specs.States.{start_mode}
+use Rattle.super_meta.specs.Contents.{Content}
+use Rattle.dev_store.specs.declared.state.State.{State}
+use Rattle.dev_store.specs.Layouts.{LayoutValue}
+use Rattle.dev_store.specs.States.{start_mode, both_flags}
 use Rattle.dev_store.specs.Supers.{bytes_in}
 
 -- the bytes of a text
@@ -80,3 +84,29 @@ pub record AreTellable (f : Facts) : Type 0 where
   pub short : AreShortRows (all_rows (told_device f))
   pub few : length (plain_rows (told_device f)) ≤ 848
   pub summed : AreSummed f
+
+-- the partitions and the extents of a table, none without one
+abbrev pub partitions_in : Option Content → List Partition
+partitions_in None = []
+partitions_in (Some c) = c.partitions
+
+abbrev pub extents_in : Option Content → List Extent
+extents_in None = []
+extents_in (Some c) = c.extents
+
+-- The facts are those of a layout, a state and a table, in userspace or in the bootloader.
+pub record AreFactsOf (layout : LayoutValue) (state : State) (table : Option Content) (userspace : Bool)
+    (f : Facts) : Type 0 where
+  pub product : f.product.now ≡ layout.product
+  pub serial : f.serial.now ≡ layout.serial
+  pub vars : f.vars.now ≡ layout.vars
+  pub slots : f.slots ≡ layout.slots
+  pub max : f.max ≡ layout.max
+  pub super_name : f.super_name ≡ option_map (λ s. s.name) layout.super_part
+  pub physical : f.physical.now ≡ layout.physical
+  pub active : f.active ≡ state.active
+  pub flags : f.flags ≡ both_flags state.flags
+  pub locked : f.locked ≡ state.locked
+  pub mode : f.userspace ≡ userspace
+  pub logical : f.logical.now ≡ partitions_in table
+  pub extents : f.extents.now ≡ extents_in table

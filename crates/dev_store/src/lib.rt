@@ -6,8 +6,7 @@ ghost use Rattle.dev_store.specs.Laws.{StandsOnce, StandsByParts, CreateRefuses,
 ghost use Rattle.dev_store.specs.Laws.{ResizeRefuses};
 ghost use Rattle.dev_store.specs.Laws.{InstallRefuses, UnchangedIsHonest, RepairedStands, RecordAgain};
 ghost use Rattle.dev_store.specs.Laws.{OneStateReads, OneTableReads, ZeroedRefuses, LaidValid};
-ghost use Rattle.dev_store.specs.Laws.{StandsValid, OwnsOnce};
-ghost use Rattle.dev_store.specs.Laws.{MadeStands};
+ghost use Rattle.dev_store.specs.Laws.{StandsValid, OwnsOnce, MadeStands, ZeroedTells};
 ghost use Rattle.dev_store.specs.Rows.{Rows};
 
 mod entries;
@@ -22,6 +21,11 @@ mod making;
 mod making_blocks;
 mod record;
 mod owners;
+pub mod state;
+pub mod store;
+mod variables_all;
+mod variables_base;
+mod variables_facts;
 mod variables_find;
 mod variables_row;
 mod variables_show;
@@ -58,6 +62,7 @@ pub fn laws()
     ensures stands_valid { StandsValid }
     ensures owns_once { OwnsOnce }
     ensures made_stands { MadeStands }
+    ensures zeroed_tells { ZeroedTells }
 {}
 
 #[cfg(test)]

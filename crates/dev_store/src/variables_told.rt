@@ -175,7 +175,7 @@ fn variable_step<'a>(vars: &'a [Variable], place: usize) -> Step<'a>
 }
 
 /// A row whose name ends in the name of a slot or a partition.
-fn named_of<'a>(head: &'a [u8], of: &'a [u8], text: Text<'a>) -> Row<'a>
+pub fn named_of<'a>(head: &'a [u8], of: &'a [u8], text: Text<'a>) -> Row<'a>
     ensures { row_of result ≡ (head.now ++ of.now, text_of text.entry) }
 {
     Row { head, of, text }

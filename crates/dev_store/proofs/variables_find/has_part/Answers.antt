@@ -1,4 +1,4 @@
-use Rattle.std.proofs.Common.{◌≡◌, ◌∙◌, sym, ap, refl, true, false, ◌++◌}
+use Rattle.std.proofs.Common.{◌∙◌, sym, ap, refl, ◌++◌}
 use Rattle.std.specs.Prelude.{◌||◌}
 use Rattle.dev_store.specs.ToldRows.{told_device, told_physical, told_logical}
 use Rattle.dev_model.specs.Partitions.{is_logical}

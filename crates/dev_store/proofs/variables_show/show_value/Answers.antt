@@ -1,4 +1,4 @@
-use Rattle.std.proofs.Common.{length, arith, ◌≤◌}
+use Rattle.std.proofs.Common.{arith}
 use Rattle.std.specs.Prelude.{bytes_eq}
 use Rattle.dev_model.specs.Variables.{plain_rows}
 use Rattle.dev_store.specs.ToldRows.{told_device, text_of}
