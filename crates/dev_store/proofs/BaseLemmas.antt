@@ -75,9 +75,9 @@ pub known-then : (b : List ℕ → List ℕ) (names : List (List ℕ)) (i place 
 known-then b names i place base y t e h =
     sym (any-longer (λ x. bytes_eq base x) (map b names) (i + 1) place (omega arith)
     (ap (list_any (λ x. bytes_eq base x)) t.0 ∙ (list_any-append (λ x. bytes_eq base x) (take i (map b names)) (y ∷ []) ∙ by (list_any (λ x. bytes_eq base x) (take i (map b names))) (bytes_eq base y) e))) where
-  by : (a c : Bool) → c ≡ true → (a || (c || false)) ≡ true
-  by true c k = refl
-  by false c k = ap (λ d. d || false) k
+      by : (a c : Bool) → c ≡ true → (a || (c || false)) ≡ true
+      by true c k = refl
+      by false c k = ap (λ d. d || false) k
 
 pub unknown-then : (b : List ℕ → List ℕ) (names : List (List ℕ)) (i : ℕ) (base y : List ℕ) → Turns b names i y → bytes_eq base y ≡ false → list_any (λ x. bytes_eq base x) (take i (map b names)) ≡ false →
     list_any (λ x. bytes_eq base x) (take (i + 1) (map b names)) ≡ false
@@ -97,10 +97,10 @@ two-filters p q r f (y ∷ ys) = by (q y) (p y) refl refl (two-filters p q r f y
   by : (a c : Bool) → q y ≡ a → p y ≡ c → filter p (filter q ys) ≡ filter r ys → filter p (cond (q y) (y ∷ filter q ys) (filter q ys)) ≡ cond (r y) (y ∷ filter r ys) (filter r ys)
   by a c e g h =
       ap (λ d. filter p (cond d (y ∷ filter q ys) (filter q ys))) e ∙ (inner a c g h ∙ sym (ap (λ d. cond d (y ∷ filter r ys) (filter r ys)) (f y ∙ (ap (λ d. d && p y) e ∙ ap (λ d. a && d) g)))) where
-    inner : (a c : Bool) → p y ≡ c → filter p (filter q ys) ≡ filter r ys → filter p (cond a (y ∷ filter q ys) (filter q ys)) ≡ cond (a && c) (y ∷ filter r ys) (filter r ys)
-    inner true true g h = ap (λ d. cond d (y ∷ filter p (filter q ys)) (filter p (filter q ys))) g ∙ ap (λ t. y ∷ t) h
-    inner true false g h = ap (λ d. cond d (y ∷ filter p (filter q ys)) (filter p (filter q ys))) g ∙ h
-    inner false c g h = h
+        inner : (a c : Bool) → p y ≡ c → filter p (filter q ys) ≡ filter r ys → filter p (cond a (y ∷ filter q ys) (filter q ys)) ≡ cond (a && c) (y ∷ filter r ys) (filter r ys)
+        inner true true g h = ap (λ d. cond d (y ∷ filter p (filter q ys)) (filter p (filter q ys))) g ∙ ap (λ t. y ∷ t) h
+        inner true false g h = ap (λ d. cond d (y ∷ filter p (filter q ys)) (filter p (filter q ys))) g ∙ h
+        inner false c g h = h
 
 more-seen : (seen : List (List ℕ)) (x y : List ℕ) → not (among (seen ++ x ∷ []) y) ≡ (not (bytes_eq y x) && not (among seen y))
 more-seen seen x y = ap not (list_any-append (λ z. bytes_eq y z) seen (x ∷ [])) ∙ by (among seen y) (bytes_eq y x) where

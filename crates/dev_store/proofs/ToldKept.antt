@@ -66,8 +66,27 @@ logical-outlines s c super l h placed (p ∷ ps) =
 -- all that a bare device has
 abbrev bare-with : (product serial : List ℕ) (vars : List Variable) (slots : ℕ) (active : Slot) (flags : BothFlags) (locked userspace : Bool) (max : ℕ) (super_name : Option (List ℕ)) (ps ls : List Outline) → Dev
 bare-with product serial vars slots active flags locked userspace max super_name ps ls =
-    plain-of (record { product = product; serial = serial; vars = vars; slots = slots; active = active; flags = flags; locked = locked; mode = start_mode userspace; max = max; physical = []; super_name = super_name;
-      geometry = record { max_size = 0; slots = 0 }; groups = []; logical = []; unit = 0; units = 0; super_size = 0; table_minor = 0; table_flags = 0 }) ps ls
+    plain-of (record {
+      product = product;
+      serial = serial;
+      vars = vars;
+      slots = slots;
+      active = active;
+      flags = flags;
+      locked = locked;
+      mode = start_mode userspace;
+      max = max;
+      physical = [];
+      super_name = super_name;
+      geometry = record { max_size = 0; slots = 0 };
+      groups = [];
+      logical = [];
+      unit = 0;
+      units = 0;
+      super_size = 0;
+      table_minor = 0;
+      table_flags = 0;
+    }) ps ls
 
 bare-told : (layout : LayoutValue) (state : State) (table : Option Content) (userspace : Bool) (f : Facts) (ps ls : List Outline) → AreFactsOf layout state table userspace f →
     ps ≡ map physical-outline (map told_physical f.physical.now) → ls ≡ map logical-outline (map (told_logical f.extents.now) f.logical.now) →
@@ -126,8 +145,19 @@ super-in-mode userspace false dev h = h
 
 in-mode : (userspace : Bool) (dev : Dev) → IsValid dev → IsValid (started_in userspace dev)
 in-mode userspace dev v = record {
-  names = v.names; labels = v.labels; variables = v.variables; variable_names = v.variable_names; slots = v.slots; download = v.download; physical = v.physical; groups = v.groups; logical = v.logical; version = v.version;
-  units_fit = v.units_fit; groups_fit = v.groups_fit; super = super-in-mode userspace (is_some dev.super_name) dev v.super;
+  names = v.names;
+  labels = v.labels;
+  variables = v.variables;
+  variable_names = v.variable_names;
+  slots = v.slots;
+  download = v.download;
+  physical = v.physical;
+  groups = v.groups;
+  logical = v.logical;
+  version = v.version;
+  units_fit = v.units_fit;
+  groups_fit = v.groups_fit;
+  super = super-in-mode userspace (is_some dev.super_name) dev v.super;
 }
 
 pub super-tellable : (layout : LayoutValue) (s : SuperPart) (state : State) (c : Content) (userspace : Bool) (file bytes : List ℕ) (f : Facts) → IsLaid layout → layout.super_part ≡ Some s → length file ≡ image_size layout →

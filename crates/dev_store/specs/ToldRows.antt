@@ -31,7 +31,6 @@ text_of (Size size) = size_text size
 text_of (Extents extents) = size_text (bytes_in extents.list.now)
 text_of (Count n) = decimal n
 
-
 -- a variable's name and text
 abbrev pub row_of : Row → NamedText
 row_of row = (row.head.now ++ row.of.now, text_of row.text)

@@ -19,10 +19,14 @@ mod layout_text;
 pub mod make;
 mod making;
 mod making_blocks;
-mod record;
 mod owners;
+mod record;
 pub mod state;
 pub mod store;
+mod super_read;
+mod super_repair;
+mod super_table;
+mod units;
 mod variables_all;
 mod variables_base;
 mod variables_facts;
@@ -31,12 +35,6 @@ mod variables_row;
 mod variables_show;
 mod variables_text;
 mod variables_told;
-pub mod state;
-pub mod store;
-mod super_read;
-mod super_repair;
-mod super_table;
-mod units;
 
 /// Worked examples of the definitions.
 pub fn rows()

@@ -40,7 +40,8 @@ fn row_at<'a>(facts: &'a Facts<'a>, place: usize) -> Option<Row<'a>>
 /// Puts the variable at a place of the order of `all` in the line, as `name:value`.
 pub fn show_variable(facts: &Facts, place: usize, line: &mut Line) -> bool
     requires { AreTellable facts.now }
-    ensures { Shows (option_map info_text (slice_get (all_rows (told_device facts.now)) place)) result line.old line.new }
+    ensures { Shows (option_map info_text (slice_get (all_rows (told_device facts.now)) place))
+        result line.old line.new }
 {
     match row_at(facts, place) {
         None => false,

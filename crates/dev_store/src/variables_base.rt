@@ -1,4 +1,6 @@
-ghost use Rattle.std.specs.Prelude.{◌≡◌, ◌<◌, ◌≤◌, ◌++◌, ◌∷◌, [], ◌&&◌, ◌||◌, nat_lt, nat_eq, None, Some, option_map, slice_get, length, map, take, filter_map, if◌then◌else◌, bytes_eq, codes};
+ghost use Rattle.std.specs.Prelude.{◌≡◌, ◌<◌, ◌≤◌, ◌++◌, ◌∷◌, [], ◌&&◌, ◌||◌, nat_lt, nat_eq, None};
+ghost use Rattle.std.specs.Prelude.{Some, option_map, slice_get, length, map, take, filter_map};
+ghost use Rattle.std.specs.Prelude.{if◌then◌else◌, bytes_eq, codes};
 ghost use Rattle.std.specs.List.{ends_with, list_any};
 ghost use Rattle.fb_frame.specs.Slots.{suffix};
 ghost use Rattle.dev_model.specs.Variables.{base_name, base_names, has_slot_row};
@@ -62,11 +64,7 @@ fn base_row<'a>(facts: &Facts, base: &'a [u8]) -> Option<Row<'a>>
 {
     match has_slot(facts, base) {
         None => None,
-        Some(slotted) => Some(named_of(
-            b"has-slot:".as_slice(),
-            base,
-            yes_or_no(slotted),
-        )),
+        Some(slotted) => Some(named_of(b"has-slot:".as_slice(), base, yes_or_no(slotted))),
     }
 }
 
@@ -86,7 +84,8 @@ fn new_row<'a>(facts: &Facts, place: usize, base: &'a [u8]) -> Option<Row<'a>>
 /// The row of `has-slot` at a place of all of them.
 pub fn base_row_at<'a>(facts: &Facts<'a>, place: usize) -> Option<Row<'a>>
     ensures { option_map row_of result
-        ≡ slice_get (filter_map (has_slot_row (told_device facts.now)) (base_names (told_device facts.now))) place }
+        ≡ slice_get (filter_map (has_slot_row (told_device facts.now))
+            (base_names (told_device facts.now))) place }
 {
     let mut left = place;
     let count = facts.physical.len() + facts.logical.len();

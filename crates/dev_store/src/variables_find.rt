@@ -1,4 +1,5 @@
-ghost use Rattle.std.specs.Prelude.{◌≡◌, ◌++◌, ◌∷◌, [], ◌+◌, ◌*◌, ◌<◌, ◌≤◌, ◌^◌, ◌&&◌, ◌||◌, false, true, option_map, codes, length, map, bytes_eq, drop};
+ghost use Rattle.std.specs.Prelude.{◌≡◌, ◌++◌, ◌∷◌, [], ◌+◌, ◌*◌, ◌<◌, ◌≤◌, ◌^◌, ◌&&◌, ◌||◌, false};
+ghost use Rattle.std.specs.Prelude.{true, option_map, codes, length, map, bytes_eq, drop};
 ghost use Rattle.std.specs.Map.{lookup};
 ghost use Rattle.std.specs.List.{list_any};
 ghost use Rattle.fb_frame.specs.Slots.{suffix};
@@ -49,17 +50,13 @@ pub fn find_plain<'a>(facts: &'a Facts<'a>, name: &[u8]) -> Option<Row<'a>>
 fn has_physical(parts: &[PhysicalPart], head: &[u8], of: &[u8]) -> bool
     ensures { result ≡ list_any (λ p. bytes_eq (head.now ++ of.now) p.name) parts.now }
 {
-    parts
-        .iter()
-        .any(|p| is_joined(head, of, p.name.bytes()))
+    parts.iter().any(|p| is_joined(head, of, p.name.bytes()))
 }
 
 fn has_logical(parts: &[Partition], head: &[u8], of: &[u8]) -> bool
     ensures { result ≡ list_any (λ p. bytes_eq (head.now ++ of.now) p.name) parts.now }
 {
-    parts
-        .iter()
-        .any(|p| is_joined(head, of, p.name.bytes()))
+    parts.iter().any(|p| is_joined(head, of, p.name.bytes()))
 }
 
 /// Whether there is a partition whose name is these two parts.

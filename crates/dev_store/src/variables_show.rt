@@ -46,7 +46,8 @@ fn slotted_name(name: &[u8]) -> Option<Name>
 }
 
 fn show_slotted(facts: &Facts, name: &[u8], line: &mut Line) -> bool
-    ensures { Shows (option_and_then (has_slot (told_device facts.now)) (slotted_name name.now)) result line.old line.new }
+    ensures { Shows (option_and_then (has_slot (told_device facts.now)) (slotted_name name.now))
+        result line.old line.new }
 {
     match slotted_name(name) {
         None => false,

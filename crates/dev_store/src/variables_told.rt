@@ -1,11 +1,15 @@
-ghost use Rattle.std.specs.Prelude.{◌≡◌, ◌++◌, ◌∷◌, [], ◌+◌, ◌<◌, ◌≤◌, ◌^◌, List, Some, None, option_map, slice_get, ◌==◌, false, true, length, map, flat_map, not, codes, if◌then◌else◌, decimal};
+ghost use Rattle.std.specs.Prelude.{◌≡◌, ◌++◌, ◌∷◌, [], ◌+◌, ◌<◌, ◌≤◌, ◌^◌, List, Some, None};
+ghost use Rattle.std.specs.Prelude.{option_map, slice_get, ◌==◌, false, true, length, map, flat_map};
+ghost use Rattle.std.specs.Prelude.{not, codes, if◌then◌else◌, decimal};
 ghost use Rattle.fb_frame.specs.Bytes.{zeros};
 ghost use Rattle.fb_frame.specs.Numbers.{size_text};
 ghost use Rattle.fb_frame.specs.Slots.{letter};
 ghost use Rattle.fb_frame.specs.declared.slot.Slot.TheVariants.{A, B};
 ghost use Rattle.dev_model.specs.Partitions.{has_slots, is_userspace};
-ghost use Rattle.dev_model.specs.Variables.{Row as NamedText, yes_or_no, with_slots_only, device_rows, super_row, slot_rows, partition_rows, plain_rows};
-ghost use Rattle.dev_store.specs.ToldRows.{row_of, text_of, stepped, told_device, told_physical, told_logical, part_extents, AreSummed};
+ghost use Rattle.dev_model.specs.Variables.{Row as NamedText, yes_or_no, with_slots_only, device_rows};
+ghost use Rattle.dev_model.specs.Variables.{super_row, slot_rows, partition_rows, plain_rows};
+ghost use Rattle.dev_store.specs.ToldRows.{row_of, text_of, stepped, told_device, told_physical};
+ghost use Rattle.dev_store.specs.ToldRows.{told_logical, part_extents, AreSummed};
 ghost use Rattle.std.specs.List.{AllByRecursion};
 ghost use Rattle.dev_store.specs.Supers.{bytes_in};
 
@@ -97,7 +101,8 @@ fn slot_count(slots: u8) -> Text<'static>
 }
 
 fn limit_rows<'a>(facts: &Facts<'a>) -> [Row<'a>; 3]
-    ensures { map row_of result ≡ (codes "slot-count", if has_slots (told_device facts.now) then codes "2" else codes "0")
+    ensures { map row_of result
+        ≡ (codes "slot-count", if has_slots (told_device facts.now) then codes "2" else codes "0")
         ∷ (codes "max-download-size", size_text facts.now.max)
         ∷ (codes "is-userspace", yes_or_no (is_userspace (told_device facts.now).mode)) ∷ [] }
 {
@@ -112,7 +117,8 @@ fn limit_rows<'a>(facts: &Facts<'a>) -> [Row<'a>; 3]
 }
 
 fn super_step<'a>(facts: &'a Facts<'a>, place: usize) -> Step<'a>
-    ensures { (more : List NamedText) → slice_get (super_row facts.now.super_name ++ more) place ≡ stepped result more }
+    ensures { (more : List NamedText) → slice_get (super_row facts.now.super_name ++ more)
+        place ≡ stepped result more }
 {
     match &facts.super_name {
         None => Step::Later(place),
@@ -136,16 +142,19 @@ fn labels_step<'a>(facts: &Facts<'a>, place: usize) -> Step<'a>
 }
 
 fn limits_step<'a>(facts: &Facts<'a>, place: usize) -> Step<'a>
-    ensures { (more : List NamedText) → slice_get (((codes "slot-count", if has_slots (told_device facts.now) then codes "2" else codes "0")
+    ensures { (more : List NamedText) → slice_get (
+        ((codes "slot-count", if has_slots (told_device facts.now) then codes "2" else codes "0")
         ∷ (codes "max-download-size", size_text facts.now.max)
-        ∷ (codes "is-userspace", yes_or_no (is_userspace (told_device facts.now).mode)) ∷ []) ++ more) place ≡ stepped result more }
+        ∷ (codes "is-userspace", yes_or_no (is_userspace (told_device facts.now).mode)) ∷ []) ++ more)
+        place ≡ stepped result more }
 {
     step(&limit_rows(facts), place)
 }
 
 /// What a device tells of itself.
 fn device_step<'a>(facts: &'a Facts<'a>, place: usize) -> Step<'a>
-    ensures { (more : List NamedText) → slice_get (device_rows (told_device facts.now) ++ more) place ≡ stepped result more }
+    ensures { (more : List NamedText) → slice_get (device_rows (told_device facts.now) ++ more)
+        place ≡ stepped result more }
 {
     let place = match labels_step(facts, place) {
         Step::Found(row) => return Step::Found(row),
@@ -163,7 +172,8 @@ fn device_step<'a>(facts: &'a Facts<'a>, place: usize) -> Step<'a>
 }
 
 fn variable_step<'a>(vars: &'a [Variable], place: usize) -> Step<'a>
-    ensures { (more : List NamedText) → slice_get (map (λ v. (v.name, v.text)) vars.now ++ more) place ≡ stepped result more }
+    ensures { (more : List NamedText) → slice_get (map (λ v. (v.name, v.text)) vars.now ++ more)
+        place ≡ stepped result more }
 {
     if place < vars.len() {
         let variable = &vars[place];
@@ -224,7 +234,8 @@ fn both_slots_step<'a>(facts: &Facts<'a>, place: usize) -> Step<'a>
 
 fn slots_step<'a>(facts: &Facts<'a>, place: usize) -> Step<'a>
     ensures { (more : List NamedText) → slice_get (with_slots_only (told_device facts.now)
-        (slot_rows A (told_device facts.now).flags.a ++ slot_rows B (told_device facts.now).flags.b) ++ more) place ≡ stepped result more }
+        (slot_rows A (told_device facts.now).flags.a ++ slot_rows B (told_device facts.now).flags.b)
+        ++ more) place ≡ stepped result more }
 {
     if facts.slots == 2 {
         both_slots_step(facts, place)
@@ -308,7 +319,8 @@ fn logical_step<'a>(parts: &'a [Partition], extents: &'a [Extent], place: usize)
 /// The variable at a place of all but `has-slot`, or how many places after them.
 pub fn plain_step<'a>(facts: &'a Facts<'a>, place: usize) -> Step<'a>
     requires summed { AreSummed facts.now }
-    ensures { (more : List NamedText) → slice_get (plain_rows (told_device facts.now) ++ more) place ≡ stepped result more }
+    ensures { (more : List NamedText) → slice_get (plain_rows (told_device facts.now) ++ more)
+        place ≡ stepped result more }
 {
     let place = match device_step(facts, place) {
         Step::Found(row) => return Step::Found(row),
