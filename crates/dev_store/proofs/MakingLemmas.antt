@@ -117,10 +117,10 @@ super-image layout unlocked s e =
     let sum = sum_of layout in
     append_assoc text blocks (zeros (sum + 4096) ++ ((g ++ t) ++ rest))
     ∙ ap (λ x. text ++ (blocks ++ x)) (
-      ap (λ x. x ++ ((g ++ t) ++ rest)) (sym (zeros-join sum 4096))
-      ∙ (append_assoc (zeros sum) (zeros 4096) ((g ++ t) ++ rest)
-      ∙ (ap (λ x. zeros sum ++ (zeros 4096 ++ x)) (append_assoc g t rest)
-      ∙ ap (λ part. zeros sum ++ super_image part) (sym e)))
+    ap (λ x. x ++ ((g ++ t) ++ rest)) (sym (zeros-join sum 4096))
+    ∙ (append_assoc (zeros sum) (zeros 4096) ((g ++ t) ++ rest)
+    ∙ (ap (λ x. zeros sum ++ (zeros 4096 ++ x)) (append_assoc g t rest)
+    ∙ ap (λ part. zeros sum ++ super_image part) (sym e)))
     )
 
 -- what a file of zeros has become

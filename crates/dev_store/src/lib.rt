@@ -17,6 +17,8 @@ mod layout_line;
 mod layout_super;
 mod layout_text;
 pub mod make;
+#[cfg(test)]
+mod make_tests;
 mod making;
 mod making_blocks;
 mod owners;

@@ -16,12 +16,7 @@ use dev_disk::disk::{CreateError, Disk, DiskFault};
 use std::alloc::Global;
 
 /// Writes a block `count` times in a row, from the place `at` on.
-fn write_copies<K: Disk>(
-    disk: &mut K,
-    at: u64,
-    block: &[u8],
-    count: u32,
-) -> Result<(), DiskFault>
+fn write_copies<K: Disk>(disk: &mut K, at: u64, block: &[u8], count: u32) -> Result<(), DiskFault>
     requires inside { IsInside (K.told disk.old).open_length at (count * length block.now) }
     requires small { at + count * length block.now < 2 ^ 64 }
     ensures writes { OnOk result (Writes (K.told disk.old) (K.told disk.new) at (copies count block.now)) }
@@ -93,11 +88,7 @@ fn write_super<K: Disk>(
 }
 
 /// Writes what of a new super isn't zeros, where the layout has one.
-fn write_any_super<K: Disk>(
-    alloc: Global,
-    disk: &mut K,
-    layout: &Layout,
-) -> Result<(), CreateError>
+fn write_any_super<K: Disk>(alloc: Global, disk: &mut K, layout: &Layout) -> Result<(), CreateError>
     requires inside { IsInside (K.told disk.old).open_length 0 (image_size layout.now) }
     requires laid { layout_of layout.now.text ≡ Ok layout.now }
     ensures writes { OnOk result (SuperWrites layout.now.super_part (parts_end layout.now.physical)
