@@ -1,5 +1,5 @@
 -- A made image stands for the new device, and nothing is left to repair.
-use Rattle.std.proofs.Common.{◌≡◌, ◌∙◌, refl, ap, sym, subst, ℕ, ◌+◌, ◌<◌, ◌≤◌, Bool, true, false, ◌&&◌, ◌||◌, List, [], ◌∷◌, ◌++◌, map, ◌-◌, length, take, drop, Option, Some, None, Ok, nat_le, ◌==◌, if◌then◌else◌, arith, append_assoc, length-append}
+use Rattle.std.proofs.Common.{◌≡◌, ◌∙◌, refl, ap, sym, subst, ℕ, ◌+◌, ◌≤◌, Bool, true, false, ◌||◌, List, [], ◌∷◌, ◌++◌, map, ◌-◌, length, take, drop, Option, Some, None, Ok, nat_le, ◌==◌, if◌then◌else◌, arith, length-append}
 use Rattle.std.specs.Prelude.{IsTrue, sum_by}
 use Rattle.std.specs.Option.{option_or}
 use Rattle.std.specs.Result.{result_ok}
@@ -13,13 +13,11 @@ use Rattle.dev_model.specs.Images.{copies}
 use Rattle.super_meta.specs.Flaws.{◌then_on◌}
 use Rattle.dev_store.specs.declared.layout.PhysicalPart.{PhysicalPart}
 use Rattle.dev_store.specs.declared.layout.SuperPart.{SuperPart}
-use Rattle.dev_store.specs.declared.state.State.{State}
 use Rattle.dev_store.specs.Layouts.{LayoutValue, layout_of, layout_in, text_in, parts_end, super_size, image_size}
 use Rattle.dev_store.specs.States.{record_head, record_block, record_of, record_in, state_copy, is_state}
 use Rattle.dev_store.specs.Stand.{stand, check, or_bad, super_found, super_bytes, super_value, physical_at, device_with, SuperIsAlike, IsAlike, table_in}
 use Rattle.dev_store.specs.NewDevice.{filled_up, made_image, super_image, new_table, new_state, new_flags, new_part, new_super, new_device}
-use Rattle.dev_store.specs.Laid.{IsLaid, is_good_super}
-use Rattle.dev_store.specs.Opening.{IsMade}
+use Rattle.dev_store.specs.Laid.{is_good_super}
 use Rattle.dev_store.specs.Laws.{MadeStands}
 use Rattle.dev_store.proofs.LaidLemmas.{laid_valid}
 use Rattle.dev_store.proofs.RecordLemmas.{record_again}

@@ -1,10 +1,9 @@
 -- The parts of lists that are joined of parts, and lists that are copies of one.
-use Rattle.std.proofs.Common.{◌≡◌, ◌∙◌, refl, ap, sym, subst, ℕ, zero, suc, ◌+◌, ◌*◌, ◌-◌, ◌<◌, ◌≤◌, List, [], ◌∷◌, ◌++◌, length, take, drop, arith, append_assoc, length-append}
-use Rattle.std.proofs.lemmas.List.{take_at, drop_at, drop-drop, take-replicate, drop-replicate, replicate-append-replicate, append-nil}
+use Rattle.std.proofs.Common.{◌≡◌, ◌∙◌, refl, ap, sym, ℕ, zero, suc, ◌+◌, ◌*◌, ◌-◌, ◌<◌, ◌≤◌, List, [], ◌∷◌, ◌++◌, length, take, drop, arith, append_assoc, length-append}
+use Rattle.std.proofs.lemmas.List.{take_at, drop_at, drop-drop, replicate-append-replicate, append-nil}
 use Rattle.std.specs.Prelude.{map, sum_by}
 use Rattle.std.proofs.lemmas.List.Sums.{sum_by-cons}
 use Rattle.fb_frame.specs.Bytes.{zeros}
-use Rattle.dev_model.specs.declared.device.Physical.{Physical}
 use Rattle.dev_model.specs.Images.{copies}
 use Rattle.dev_store.specs.declared.layout.PhysicalPart.{PhysicalPart}
 use Rattle.dev_store.specs.NewDevice.{filled_up, new_part}

@@ -1,5 +1,5 @@
 -- What lies in the super of a made image.
-use Rattle.std.proofs.Common.{◌≡◌, ◌∙◌, refl, ap, sym, subst, ℕ, ◌+◌, ◌*◌, ◌-◌, ◌/◌, ◌%◌, ◌^◌, ◌<◌, ◌≤◌, Bool, true, false, ◌&&◌, List, [], ◌∷◌, ◌++◌, length, take, drop, Option, Some, None, Result, Ok, Err, nat_le, nat_lt, ◌==◌, if◌then◌else◌, arith, lit<, append_assoc, length-append}
+use Rattle.std.proofs.Common.{◌≡◌, ◌∙◌, refl, ap, sym, subst, ℕ, ◌+◌, ◌*◌, ◌-◌, ◌/◌, ◌%◌, ◌^◌, ◌<◌, ◌≤◌, true, ◌&&◌, List, [], ◌++◌, length, take, drop, Option, Some, Ok, nat_le, nat_lt, ◌==◌, if◌then◌else◌, arith, length-append}
 use Rattle.std.specs.Prelude.{IsTrue, bytes_eq}
 use Rattle.std.specs.Result.{result_ok}
 use Rattle.std.specs.Int.{w32, w64, to_le_bytes}
@@ -15,10 +15,10 @@ use Rattle.fb_frame.specs.NameText.{is_name}
 use Rattle.dev_model.specs.Images.{copies}
 use Rattle.dev_model.proofs.Valid.{both, and-true}
 use Rattle.super_meta.specs.declared.geometry.Geometry.{Geometry}
-use Rattle.super_meta.specs.GeometryText.{geometry_of, geometry_front, geometry_back, geometry_bytes, is_geometry, GeometryBytes}
-use Rattle.super_meta.specs.Contents.{Content, are_named_apart, are_indexed, are_laid, are_known, is_sound}
-use Rattle.super_meta.specs.TableText.{table_of, table_size}
-use Rattle.super_meta.specs.TableBytes.{table_bytes, tables_bytes, header_front, header_back, header_core, flags_bytes, lists_fit, TableBytes}
+use Rattle.super_meta.specs.GeometryText.{geometry_front, geometry_back, geometry_bytes, is_geometry}
+use Rattle.super_meta.specs.Contents.{are_named_apart, are_indexed, are_laid, are_known, is_sound}
+use Rattle.super_meta.specs.TableText.{table_of}
+use Rattle.super_meta.specs.TableBytes.{table_bytes, tables_bytes, header_front, header_back, header_core, flags_bytes, lists_fit}
 use Rattle.super_meta.specs.Entries.{group_bytes, device_bytes, name_field}
 use Rattle.super_meta.specs.Sealed.{sealed}
 use Rattle.super_meta.proofs.GeometryLemmas.{geometry-read, length-front, length-back}
@@ -31,12 +31,12 @@ use Rattle.dev_store.specs.declared.layout.SuperPart.{SuperPart}
 use Rattle.dev_store.specs.declared.entries.Entry.TheVariants.{SuperLine}
 use Rattle.dev_store.specs.LayoutLines.{first_unit, unit_count, is_size, is_sized, has_room}
 use Rattle.dev_store.specs.Laid.{is_good_super}
-use Rattle.dev_store.specs.Supers.{geometry_copy, holds_geometry, is_own_geometry, table_copy, copy_reads, table_read, copy_place, own_device, is_own_device, are_good_units}
+use Rattle.dev_store.specs.Supers.{holds_geometry, is_own_geometry, table_copy, copy_reads, table_read, own_device, is_own_device, are_good_units}
 use Rattle.dev_store.specs.Stand.{table_in, IsAlike}
 use Rattle.dev_store.specs.NewDevice.{filled_up, new_table, own_geometry, super_image}
 use Rattle.dev_store.proofs.MadeText.{length-zeros}
 use Rattle.dev_store.proofs.MadeParts.{length-filled, twice, length-copies, behind, part-at, copy-at}
-use Rattle.dev_store.proofs.RepairLemmas.{IsTable, table-from}
+use Rattle.dev_store.proofs.RepairLemmas.{table-from}
 
 -- the numbers of a super, as a layout takes them
 pub record HasNumbers (s : SuperPart) : Type 0 where

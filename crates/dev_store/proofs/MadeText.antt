@@ -1,6 +1,6 @@
 -- The text of an image's first block is the layout's: a text that gives a layout ends with a line feed.
-use Rattle.std.proofs.Common.{◌≡◌, ◌∙◌, refl, ap, sym, subst, ℕ, ◌+◌, ◌-◌, ◌<◌, ◌≤◌, Bool, true, false, cond, ◌&&◌, List, [], ◌∷◌, ◌++◌, length, take, get_or, Option, Some, None, Result, Ok, Err, ◌==◌, if◌then◌else◌, arith, append_assoc, length-append}
-use Rattle.std.specs.Prelude.{is_some, nat_lt, bytes_eq, codes, option_and_then, replicate}
+use Rattle.std.proofs.Common.{◌≡◌, ◌∙◌, refl, ap, sym, ℕ, ◌+◌, ◌-◌, ◌<◌, ◌≤◌, Bool, true, false, cond, List, [], ◌∷◌, ◌++◌, length, take, get_or, Option, Some, None, Result, Ok, Err, ◌==◌, if◌then◌else◌, arith, append_assoc, length-append}
+use Rattle.std.specs.Prelude.{is_some, nat_lt, bytes_eq, codes, option_and_then}
 use Rattle.std.specs.List.{list_all, slice_split, onto_first, suffix_len}
 use Rattle.std.proofs.Math.Seq.{get_or-append_seam}
 use Rattle.std.proofs.lemmas.List.{take_at, length-replicate, get_or-append_right, get_or-replicate}
@@ -9,13 +9,13 @@ use Rattle.std.proofs.lemmas.List.Sums.{suffix_len_is}
 use Rattle.std.proofs.lemmas.Bool.Decides.{nat_tests}
 use Rattle.fb_frame.specs.Bytes.{zeros}
 use Rattle.super_meta.specs.Entries.{is_zero}
-use Rattle.dev_model.proofs.Valid.{both, and-true}
+use Rattle.dev_model.proofs.Valid.{and-true}
 use Rattle.dev_store.specs.declared.layout.LayoutKind.{LayoutKind}
 use Rattle.dev_store.specs.declared.layout.LayoutKind.TheVariants.{TooLong}
 use Rattle.dev_store.specs.declared.layout.LayoutError.{LayoutError}
 use Rattle.dev_store.specs.declared.entries.Entry.{Entry}
 use Rattle.dev_store.specs.LayoutLines.{is_feed, whole_lines, lines, entry_of, entry_flaw}
-use Rattle.dev_store.specs.Layouts.{LayoutValue, layout_of, layout_with, with_text, entries_of, read_lines, added, unless_flawed, is_first_line, is_complete, at_line, text_in}
+use Rattle.dev_store.specs.Layouts.{LayoutValue, layout_of, layout_with, with_text, entries_of, read_lines, added, unless_flawed, at_line, text_in}
 
 -- the last byte is a line feed; of no bytes as is said
 abbrev ended : Bool → List ℕ → Bool

@@ -1,5 +1,5 @@
 -- What the writes of a new image make of a file of zeros.
-use Rattle.std.proofs.Common.{◌≡◌, ◌∙◌, refl, ap, sym, subst, ℕ, zero, suc, ◌+◌, ◌*◌, ◌-◌, ◌^◌, ◌<◌, ◌≤◌, Bool, true, List, [], ◌∷◌, ◌++◌, length, take, drop, Option, Some, None, Result, Ok, Err, arith, add-one, append_assoc, length-append}
+use Rattle.std.proofs.Common.{◌≡◌, ◌∙◌, refl, ap, sym, subst, ℕ, zero, suc, ◌+◌, ◌*◌, ◌-◌, ◌^◌, ◌<◌, ◌≤◌, Bool, true, List, [], ◌++◌, length, Option, Some, None, Result, Ok, Err, arith, add-one, append_assoc, length-append}
 use Rattle.std.specs.Prelude.{IsTrue, OnOk, sum_by}
 use Rattle.std.proofs.Math.Nat.{mul-le-mul_right}
 use Rattle.std.proofs.lemmas.List.{append-nil}
@@ -11,7 +11,6 @@ use Rattle.dev_disk.specs.Calls.{Agrees, IsOpen, HasZeros}
 use Rattle.dev_disk.specs.Disks.{DiskTold, open_bytes, FilesKept, OpenKept, Writes, Creates}
 use Rattle.dev_disk.proofs.TwinLemmas.{HasRange, content-range, keeps-more, same-bytes, OpenKept-then, OpenKept-files}
 use Rattle.dev_store.specs.declared.layout.SuperPart.{SuperPart}
-use Rattle.dev_store.specs.declared.layout.PhysicalPart.{PhysicalPart}
 use Rattle.dev_store.specs.Layouts.{LayoutValue, layout_of, parts_end, super_size, image_size}
 use Rattle.dev_store.specs.States.{record_block}
 use Rattle.dev_store.specs.Laid.{is_good_super}
@@ -19,7 +18,7 @@ use Rattle.dev_store.specs.NewDevice.{filled_up, made_image, new_state, super_im
 use Rattle.dev_store.specs.Making.{image_front, geometry_block, table_block, super_front, SuperWrites, IsFilled, Fills}
 use Rattle.dev_store.specs.Opening.{Makes, MadeIn, IsMade}
 use Rattle.dev_store.proofs.LaidLemmas.{laid_valid}
-use Rattle.dev_store.proofs.MadeText.{text-of, length-zeros}
+use Rattle.dev_store.proofs.MadeText.{text-of}
 use Rattle.dev_store.proofs.WrittenLemmas.{written-none, written-more, written-front, written-behind}
 use Rattle.dev_store.proofs.MadeParts.{length-filled, length-copies, zeros-join}
 use Rattle.dev_store.proofs.MadeSuper.{HasNumbers, has-numbers, length-geometry_block, length-room}
