@@ -49,7 +49,7 @@ state-fits slots version block h =
 abbrev as-record : ℕ → State → Option (ℕ × State)
 as-record version state = Some (version, state)
 
-record-fits : (slots version : ℕ) (state : State) (block : List ℕ) → record_of slots block ≡ Some (version, state) → is_state slots state ≡ true
+pub record-fits : (slots version : ℕ) (state : State) (block : List ℕ) → record_of slots block ≡ Some (version, state) → is_state slots state ≡ true
 unfolding record_of
 record-fits slots version state block h = by (is_record slots 2 block) (is_record slots 1 block) refl refl h where
   by : (a b : Bool) → is_record slots 2 block ≡ a → is_record slots 1 block ≡ b → (if a then as-record 2 (state_at block) else (if b then as-record 1 (state_at block) else None)) ≡ Some (version, state) →

@@ -1,7 +1,8 @@
 -- What a store holds: a disk, and the device that the open file stands for.
 use Rattle.std.specs.Prelude.{◌≡◌, ℕ, ◌==◌, Bool, false, IsFalse, is_some}
 use Rattle.std.specs.Prelude.{List, [], length, map, position, slice_get, bytes_eq}
-use Rattle.std.specs.Prelude.{Option, Some, None, unwrap_or}
+use Rattle.std.specs.Prelude.{Option, Some, None, unwrap_or, IfSome, IsTrue}
+use Rattle.std.specs.Result.{result_ok}
 use Rattle.std.specs.List.{list_any}
 use Rattle.dev_model.specs.declared.device.Dev.{Dev}
 use Rattle.dev_model.specs.declared.device.Mode.{Mode}
@@ -13,9 +14,13 @@ use Rattle.unit_alloc.specs.Owning.{Owning, units_of}
 use Rattle.fb_frame.specs.Bytes.{zeros}
 use Rattle.dev_disk.specs.Disks.{DiskTold, open_bytes, OpenKept}
 use Rattle.super_meta.specs.Contents.{Content}
+use Rattle.super_meta.specs.TableText.{table_of}
 use Rattle.dev_store.specs.declared.layout.SuperPart.{SuperPart}
 use Rattle.dev_store.specs.Layouts.{LayoutValue, image_size}
 use Rattle.dev_store.specs.declared.state.State.{State}
+use Rattle.dev_store.specs.States.{is_state}
+use Rattle.dev_store.specs.Supers.{are_good_units}
+use Rattle.dev_store.specs.Laid.{IsLaid}
 use Rattle.dev_store.specs.Stand.{Stands, Settled, SuperValue, no_super, owned}
 use Rattle.dev_store.specs.Stand.{super_bytes, super_value, physical_at, device_with}
 
@@ -45,8 +50,11 @@ zeroed_logical p = record p { bytes = zeros (length p.bytes) }
 
 -- the device with zeros in each partition, as long as they were
 abbrev pub zeroed : Dev → Dev
-zeroed dev = record dev { physical = map zeroed_physical dev.physical; logical = map zeroed_logical
-    dev.logical }
+zeroed dev = record dev {
+  physical = map zeroed_physical dev.physical;
+  logical = map zeroed_logical
+      dev.logical;
+}
 
 -- the device as far as the disk tells: all of it, or all but the partitions' bytes
 unfoldable pub seen : Option (List ℕ) → Dev → Dev
@@ -67,7 +75,7 @@ IsSettled (Some file) = Settled file
 abbrev pub part_of : {K : Type 0} → Held K → List ℕ → Option ℕ
 part_of held name =
     slice_get held.parts (unwrap_or (position (λ p. bytes_eq p.name name) held.device.logical)
-        (length held.parts))
+    (length held.parts))
 
 -- the units of a part, none where there is no part
 abbrev pub units_by : Option Owning → Option ℕ → List ℕ
@@ -122,13 +130,30 @@ abbrev pub file_or_zeros : LayoutValue → Option (List ℕ) → List ℕ
 file_or_zeros layout file = unwrap_or file (zeros (image_size layout))
 
 -- what a device has in super, by a table
-abbrev pub super_by : LayoutValue → Option SuperPart → Content → List ℕ → SuperValue
-super_by layout None c file = no_super
-super_by layout (Some s) c file = super_value s c (super_bytes layout s file)
+abbrev pub super_by : LayoutValue → Option SuperPart → Option Content → List ℕ → SuperValue
+super_by layout (Some s) (Some c) file = super_value s c (super_bytes layout s file)
+super_by layout part c file = no_super
 
 -- the device of a layout, a state and a table, over the bytes of a file
-unfoldable pub device_held : LayoutValue → State → Content → Option (List ℕ) → Dev
+unfoldable pub device_held : LayoutValue → State → Option Content → Option (List ℕ) → Dev
 device_held layout state c image =
     let file = file_or_zeros layout image in
     device_with layout state (physical_at 12288 layout.physical file)
-        (super_by layout layout.super_part c file)
+    (super_by layout layout.super_part c file)
+
+-- the table is one of this layout's super, and there exactly where super is
+abbrev pub IsTabled : LayoutValue → Option SuperPart → Option Content → Type 0
+IsTabled layout None None = Unit {0}
+IsTabled layout None (Some c) = ⊥
+IsTabled layout (Some s) None = ⊥
+IsTabled layout (Some s) (Some c) = IsTrue (are_good_units layout.physical s c)
+    × ((bytes : List ℕ) × (result_ok (table_of bytes) ≡ Some c))
+
+-- What a store keeps of an image: a layout that a text gives, a state that fits it, and a table that some
+-- bytes give. The image is as long as the layout says.
+pub record IsKept (layout : LayoutValue) (state : State) (table : Option Content)
+    (image : Option (List ℕ)) : Type 0 where
+  pub laid : IsLaid layout
+  pub stated : IsTrue (is_state layout.slots state)
+  pub tabled : IsTabled layout layout.super_part table
+  pub long : IfSome image (λ file. length file ≡ image_size layout)

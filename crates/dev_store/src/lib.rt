@@ -11,6 +11,8 @@ ghost use Rattle.dev_store.specs.Rows.{Rows};
 
 mod entries;
 pub mod errors;
+mod image_read;
+mod image_repair;
 pub mod layout;
 mod layout_draft;
 mod layout_line;
@@ -21,9 +23,11 @@ pub mod make;
 mod make_tests;
 mod making;
 mod making_blocks;
+mod open;
 mod owners;
 mod record;
 pub mod state;
+mod states_read;
 pub mod store;
 mod super_read;
 mod super_repair;
@@ -67,3 +71,5 @@ pub fn laws()
 
 #[cfg(test)]
 mod layout_tests;
+#[cfg(test)]
+mod open_tests;

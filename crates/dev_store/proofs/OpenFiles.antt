@@ -1,0 +1,86 @@
+-- What a path's file was and is, by the open file.
+use Rattle.std.proofs.Common.{◌≡◌, ◌∙◌, refl, sym, subst, ℕ, ◌≤◌, List, Option, Some, None, Result, Ok, Err}
+use Rattle.std.specs.Prelude.{IsSome, IfSome}
+use Rattle.fb_frame.specs.Told.{Both}
+use Rattle.dev_model.specs.declared.bad_image.BadImage.{BadImage}
+use Rattle.dev_model.specs.declared.device.Dev.{Dev}
+use Rattle.dev_disk.specs.Files.{Files, content, KeepsOthers, KeepsUnopened}
+use Rattle.dev_disk.specs.Calls.{IsOpen}
+use Rattle.dev_disk.specs.Disks.{DiskTold, open_bytes, OpenKept}
+use Rattle.dev_store.specs.Stand.{stand}
+use Rattle.dev_store.specs.Opening.{StandsIn, IsBadImage, OpensTold, StandsAs, OnFile, LeavesImage}
+use Rattle.dev_store.specs.Reading.{IsThere, IsFileOpen}
+
+-- what the told open file stands for is what the path's file does
+stands-in : (f : Files) (path : List ℕ) (found : Result Dev BadImage) → IsSome (f path) → IfSome (f path) (λ file. stand file ≡ found) → StandsIn (f path) found
+stands-in f path found there h = by (f path) there h
+  where
+    by : (o : Option (List ℕ)) → IsSome o → IfSome o (λ file. stand file ≡ found) → StandsIn o found
+    by None t k = absurd cc
+    by (Some file) t k = k
+
+-- the bytes of the path's file are those of the open one
+content-at : (f : Files) (opened : Option (List ℕ)) (path : List ℕ) → opened ≡ Some path → content (Some f) opened ≡ f path
+unfolding content
+content-at f opened path e = subst (λ o. content (Some f) o ≡ f path) (sym e) refl
+
+pub bad-image : (old mid : DiskTold) (path : List ℕ) (bad : BadImage) → mid.files ≡ old.files → IsFileOpen mid path → IfSome (open_bytes mid) (λ file. stand file ≡ Err bad) → IsBadImage old.files path bad
+bad-image old mid path bad same o h = subst (λ files. IsBadImage files path bad) same (by mid.files o.opened o.there h)
+  where
+    by : (files : Option Files) → IsOpen files mid.open_path path → IsThere files path → IfSome (content files mid.open_path) (λ file. stand file ≡ Err bad) → IsBadImage files path bad
+    by None a b k = tt
+    by (Some f) a b k = stands-in f path (Err bad) b (subst (λ x. IfSome x (λ file. stand file ≡ Err bad)) (content-at f mid.open_path path a) k)
+
+pub opens-told : (old mid : DiskTold) (path : List ℕ) (dev : Dev) → mid.files ≡ old.files → IsFileOpen mid path → IfSome (open_bytes mid) (λ file. stand file ≡ Ok dev) → OpensTold old.files path dev
+opens-told old mid path dev same o h = subst (λ files. OpensTold files path dev) same (by mid.files o.opened o.there h)
+  where
+    by : (files : Option Files) → IsOpen files mid.open_path path → IsThere files path → IfSome (content files mid.open_path) (λ file. stand file ≡ Ok dev) → OpensTold files path dev
+    by None a b k = tt
+    by (Some f) a b k = stands-in f path (Ok dev) b (subst (λ x. IfSome x (λ file. stand file ≡ Ok dev)) (content-at f mid.open_path path a) k)
+
+-- the path's file before and after, and all others
+pub record ChangesFile (R : List ℕ → List ℕ → Type 0) (old new : DiskTold) (path : List ℕ) : Type 0 where
+  pub file : OnFile R old.files new.files path
+  pub open_now : IsOpen new.files new.open_path path
+  pub others : KeepsOthers old.files new.files path
+
+changes-files : (R : List ℕ → List ℕ → Type 0) (a b : Option Files) (p q : Option (List ℕ)) (path : List ℕ) → IsOpen a p path → q ≡ p → KeepsUnopened a b p → Both R (content a p) (content b q) →
+    OnFile R a b path × (IsOpen b q path × KeepsOthers a b path)
+changes-files R None None p q path o e k h = (tt, (e ∙ o, tt))
+changes-files R None (Some g) p q path o e k h = absurd (no-files g (subst (KeepsUnopened None (Some g)) o k))
+  where
+    no-files : (g : Files) → KeepsUnopened None (Some g) None → ⊥
+    no-files g k = absurd cc
+changes-files R (Some f) None p q path o e k h = absurd (subst (KeepsUnopened (Some f) None) o k)
+changes-files R (Some f) (Some g) p q path o e k h =
+    (subst (λ x. Both R x (g path)) (content-at f p path o) (subst (λ x. Both R (content (Some f) p) x) (content-at g q path (e ∙ o)) h), (e ∙ o, subst (KeepsUnopened (Some f) (Some g)) o k))
+
+pub changes-file : (R : List ℕ → List ℕ → Type 0) (old mid new : DiskTold) (path : List ℕ) → mid.files ≡ old.files → IsFileOpen mid path → OpenKept mid new → Both R (open_bytes mid) (open_bytes new) →
+    ChangesFile R old new path
+changes-file R old mid new path same o k h =
+    let c = changes-files R mid.files new.files mid.open_path new.open_path path o.opened k.path k.others h in
+    record {
+      file = subst (λ files. OnFile R files new.files path) same c.0;
+      open_now = c.1.0;
+      others = subst (λ files. KeepsOthers files new.files path) same c.1.1;
+    }
+
+-- an opening that failed and wrote nothing
+keeps-self : (files : Option Files) (path : List ℕ) → KeepsOthers files files path
+keeps-self None path = tt
+keeps-self (Some f) path = λ other ne. refl
+
+stays-self : (files : Option Files) (path : List ℕ) → OnFile StandsAs files files path
+stays-self None path = tt
+stays-self (Some f) path = by (f path)
+  where
+    by : (o : Option (List ℕ)) → Both StandsAs o o
+    by None = tt
+    by (Some file) = record { stands = refl; owns = λ name. refl }
+
+pub leaves-same : (old new : DiskTold) (path : List ℕ) → new.files ≡ old.files → old.faults ≤ new.faults → LeavesImage old new path
+leaves-same old new path same later = record {
+  left = subst (λ files. OnFile StandsAs old.files files path) (sym same) (stays-self old.files path);
+  others = subst (λ files. KeepsOthers old.files files path) (sym same) (keeps-self old.files path);
+  later = later;
+}

@@ -1,0 +1,54 @@
+use Rattle.std.proofs.Common.{◌∙◌, arith}
+use Rattle.dev_disk.specs.Disks.{open_bytes}
+use Rattle.dev_store.specs.Layouts.{image_size}
+use Rattle.dev_store.specs.Repairs.{IsRepaired}
+use Rattle.dev_store.specs.Opening.{StandsAs}
+use Rattle.dev_store.specs.Held.{device_held}
+use Rattle.dev_store.specs.Reading.{IsMended, table_within}
+use Rattle.dev_store.proofs.ImageReads.{told-long}
+use Rattle.dev_store.proofs.OpenFiles.{changes-file, opens-told}
+use Rattle.dev_store.proofs.OpenSuper.{both-two}
+use Rattle.dev_store.proofs.OpenWhole.{whole, stored, stood-before, is-now}
+use Rattle.dev_store.proofs.open.open_image.Goals as goal
+
+pub returns-in_default-clause-left : goal.returns-in_default-clause-left
+returns-in_default-clause-left g c = λ honest.
+    let m = changes-file StandsAs (g.K.Disk.told c.args.disk.now) (g.K.Disk.told c.read_path.new.disk) (g.K.Disk.told c.repair_image.new.disk) c.args.path.now
+    c.read_path.ensures.files c.in-Ok.ensures.open c.repair_image.ensures.kept (c.in_default.ensures.left honest) in
+    record { left = m.file; others = m.others; later = omega (arith, c.read_path.ensures.later, c.repair_image.ensures.kept.later) }
+
+pub returns-clause-opens : goal.returns-clause-opens
+returns-clause-opens g c =
+    let r = c.in-Ok.opened.read in
+    let old = g.K.Disk.told c.args.disk.now in
+    let mid = g.K.Disk.told c.read_path.new.disk in
+    let new = g.K.Disk.told c.repair_image.new.disk in
+    let dev = device_held r.layout r.found.state (table_within r.within) (open_bytes new) in
+    let m = changes-file IsRepaired old mid new c.args.path.now c.read_path.ensures.files c.in-Ok.ensures.open c.repair_image.ensures.kept
+    (both-two (IsMended r) (IsMended r) IsRepaired (open_bytes mid) (open_bytes new) (λ a b h k. h.repaired) c.in-Ok-repair_image.ensures.mended c.in-Ok-repair_image.ensures.mended) in
+    record {
+      device = opens-told old mid c.args.path.now dev c.read_path.ensures.files c.in-Ok.ensures.open
+          (stood-before r (open_bytes mid) (open_bytes new) c.in-Ok.ensures.sound c.in-Ok.ensures.read c.in-Ok-repair_image.ensures.mended);
+      repaired = m.file;
+      open_now = m.open_now;
+      others = m.others;
+      later = omega (arith, c.read_path.ensures.later, c.repair_image.ensures.kept.later);
+    }
+
+pub returns-clause-whole : goal.returns-clause-whole
+returns-clause-whole g c =
+    let r = c.in-Ok.opened.read in
+    let mid = g.K.Disk.told c.read_path.new.disk in
+    let new = g.K.Disk.told c.repair_image.new.disk in
+    let long = told-long new (image_size r.layout) (g.met.K.Disk.agrees c.repair_image.new.disk) (c.repair_image.ensures.kept.length ∙ c.in-Ok.ensures.long) in
+    whole g.K.Disk.told c.repair_image.new.disk r c.in-Ok.ensures.sound
+    (is-now r (open_bytes mid) (open_bytes new) c.in-Ok.ensures.sound c.in-Ok.ensures.read c.in-Ok-repair_image.ensures.mended long)
+
+pub returns-clause-stored : goal.returns-clause-stored
+returns-clause-stored g c =
+    let r = c.in-Ok.opened.read in
+    let mid = g.K.Disk.told c.read_path.new.disk in
+    let new = g.K.Disk.told c.repair_image.new.disk in
+    let long = told-long new (image_size r.layout) (g.met.K.Disk.agrees c.repair_image.new.disk) (c.repair_image.ensures.kept.length ∙ c.in-Ok.ensures.long) in
+    stored g.K.Disk.told c.repair_image.new.disk r c.in-Ok.ensures.sound
+    (is-now r (open_bytes mid) (open_bytes new) c.in-Ok.ensures.sound c.in-Ok.ensures.read c.in-Ok-repair_image.ensures.mended long)
