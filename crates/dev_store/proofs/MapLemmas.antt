@@ -58,13 +58,13 @@ claimed-own s c o part (p ∷ ps) h empty =
     let here : part < length o.parts = omega arith in
     let many : length q.parts ≡ length o.parts = length-set o.parts part (units_of o part ++ units_of_table s c p) in
     let own : units_of (claimed s c q (part + 1) ps) part ≡ units_of_table s c p =
-        claimed-other s c q (part + 1) ps part (inl (omega arith))
-        ∙ (get_or-set_same o.parts part (units_of o part ++ units_of_table s c p) [] here
-        ∙ ap (λ l. l ++ units_of_table s c p) (empty part (omega arith))) in
+    claimed-other s c q (part + 1) ps part (inl (omega arith))
+    ∙ (get_or-set_same o.parts part (units_of o part ++ units_of_table s c p) [] here
+    ∙ ap (λ l. l ++ units_of_table s c p) (empty part (omega arith))) in
     let rest = claimed-own s c q (part + 1) ps (omega (arith, many, h)) (λ j k.
-        let ne : j ≢ part = λ e. omega arith in
-        let below : part ≤ j = omega arith in
-        get_or-set_other o.parts part j (units_of o part ++ units_of_table s c p) [] ne ∙ empty j below) in
+    let ne : j ≢ part = λ e. omega arith in
+    let below : part ≤ j = omega arith in
+    get_or-set_other o.parts part j (units_of o part ++ units_of_table s c p) [] ne ∙ empty j below) in
     (λ i. own i ∷ rest i)
 
 claimed-units : (s : SuperPart) (c : Content) (o : Owning) (part : ℕ) (ps : List Partition) → (claimed s c o part ps).units ≡ o.units

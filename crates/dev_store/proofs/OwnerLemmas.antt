@@ -99,7 +99,6 @@ free-append o part [] ys h = free-nil o part ys h
 free-append o part (u ∷ xs) ys h =
     free-more o part u xs ys h (is_owned o u) refl (free-append (handed o part (u ∷ [])) part xs ys (omega (arith, handed-many o part (u ∷ []))))
 
-
 -- the first of a range
 range-here : (u e : ℕ) → u < e → range_with_len u (e - u) ≡ u ∷ range_with_len (u + 1) (e - (u + 1))
 range-here u e h = let n : e - u ≡ suc (e - (u + 1)) = omega arith in ap (range_with_len u) n

@@ -38,9 +38,10 @@ ok-from (Err e) c h = absurd cc
 -- bytes that begin as a table's spelling say the table, and only these
 pub same-tables : TableRead → TableSpelled → (c : Content) (bytes copied : List ℕ) (size : ℕ) (same : Bool) → AreBytes bytes → TableBytes c copied → size ≡ table_size c →
     (IsTrue same ↔ (take size bytes ≡ take size copied)) → (IsTrue same ↔ SaysTable c bytes)
-same-tables read spelled c bytes copied size same are t e h =
-    (λ r. ap result_ok (read bytes c (record { sound = t.sound; fitting = t.fitting; spelled = subst (λ n. take n bytes ≡ take n copied) e (h.0 r) ∙ t.spelled })),
-    λ s. h.1 (subst (λ n. take n bytes ≡ take n copied) (sym e) ((spelled bytes c are (ok-from (table_of bytes) c s)).spelled ∙ sym t.spelled)))
+same-tables read spelled c bytes copied size same are t e h = (
+  λ r. ap result_ok (read bytes c (record { sound = t.sound; fitting = t.fitting; spelled = subst (λ n. take n bytes ≡ take n copied) e (h.0 r) ∙ t.spelled })),
+  λ s. h.1 (subst (λ n. take n bytes ≡ take n copied) (sym e) ((spelled bytes c are (ok-from (table_of bytes) c s)).spelled ∙ sym t.spelled)),
+)
 
 same-numbers : (m n : ℕ) → ((m == m) && (n == n)) ≡ true
 same-numbers m n = grind (arith, nat_tests)

@@ -1,6 +1,6 @@
 -- The numbers of super and of its units, and which units each logical partition has.
-use Rattle.std.specs.Prelude.{◌≡◌, ℕ, ◌+◌, ◌*◌, ◌%◌, ◌^◌, ◌<◌, ◌≤◌, Bool, true, false, not, ◌&&◌, nat_le, List}
-use Rattle.std.specs.Prelude.{[], ◌∷◌, length, map, slice_get, Option, Some, None, IsTrue, IsFalse}
+use Rattle.std.specs.Prelude.{◌≡◌, ℕ, ◌+◌, ◌*◌, ◌%◌, ◌^◌, ◌<◌, ◌≤◌, Bool, true, false, not, ◌&&◌, nat_le}
+use Rattle.std.specs.Prelude.{List, [], ◌∷◌, length, map, slice_get, Option, Some, None, IsTrue, IsFalse}
 use Rattle.std.specs.Prelude.{if◌then◌else◌, ◌==◌}
 use Rattle.std.specs.List.{list_all, list_any}
 use Rattle.unit_alloc.specs.Owning.{Owning, is_owned, handed}
@@ -52,7 +52,8 @@ are_free owning units = are_different units && list_all (λ u. not (is_owned own
 -- each of these partitions is handed its units: the first one as this part, and so on
 abbrev pub claimed : SuperPart → Content → Owning → ℕ → List Partition → Owning
 claimed s c owning part [] = owning
-claimed s c owning part (p ∷ partitions) = claimed s c (handed owning part (units_of s c p)) (part + 1) partitions
+claimed s c owning part (p ∷ partitions) =
+    claimed s c (handed owning part (units_of s c p)) (part + 1) partitions
 
 -- Each partition of a table has its units as a part of its own, in the table's order, and no other part has
 -- units.

@@ -1,5 +1,6 @@
 -- What opening reads of super: its geometry, its table, and which units each logical partition has.
-use Rattle.std.specs.Prelude.{◌≡◌, ℕ, ◌≤◌, Bool, true, List, length, Option, Some, None, IsTrue, if◌then◌else◌}
+use Rattle.std.specs.Prelude.{◌≡◌, ℕ, ◌≤◌, Bool, true, List, length, Option, Some, None, IsTrue}
+use Rattle.std.specs.Prelude.{if◌then◌else◌}
 use Rattle.super_meta.specs.Contents.{Content, content}
 use Rattle.super_meta.specs.TableText.{table_size}
 use Rattle.super_meta.specs.TableBytes.{TableBytes}

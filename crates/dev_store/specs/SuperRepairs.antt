@@ -1,5 +1,6 @@
 -- What opening leaves of super: copies that it writes anew, and one whose write failed.
-use Rattle.std.specs.Prelude.{◌≡◌, ◌≢◌, ◌⊎◌, ℕ, ◌+◌, ◌*◌, ◌<◌, Bool, true, false, List, Some, IsTrue, if◌then◌else◌}
+use Rattle.std.specs.Prelude.{◌≡◌, ◌≢◌, ◌⊎◌, ℕ, ◌+◌, ◌*◌, ◌<◌, true, false, List, Some, IsTrue}
+use Rattle.std.specs.Prelude.{if◌then◌else◌}
 use Rattle.std.specs.Result.{result_ok}
 use Rattle.super_meta.specs.Contents.{Content, content}
 use Rattle.super_meta.specs.TableText.{table_of}
@@ -29,19 +30,22 @@ pub record IsRangeLeft (torn : Tears) (at size : ℕ) (bytes old new : List ℕ)
   pub differs : DifferWithin at size old new
   pub left : (copy new at size ≡ copy old at size) ⊎ torn (copy old at size) bytes (copy new at size)
 
--- A copy of the table says it, unless it is the one that was read, which nothing changes. All else is as it was.
+-- A copy of the table says it, unless it is the one that was read, which nothing changes. All else is as it
+-- was.
 pub record IsCopyMended (s : SuperPart) (at own : ℕ) (c : Content) (k : ℕ) (old new : List ℕ) : Type 0 where
   pub differs : DifferWithin (at + copy_place s k) s.max_size old new
   pub says : k ≢ own → SaysTable c (copy new (at + copy_place s k) s.max_size)
   pub kept : k ≡ own → new ≡ old
 
 -- A copy other than the one that was read is as it was, or what a failed write left. All else is as it was.
-pub record IsCopyLeft (torn : Tears) (s : SuperPart) (at : ℕ) (r : SuperRead) (k : ℕ) (old new : List ℕ) : Type 0 where
+pub record IsCopyLeft (torn : Tears) (s : SuperPart) (at : ℕ) (r : SuperRead) (k : ℕ)
+    (old new : List ℕ) : Type 0 where
   pub other : k ≢ copy_read s r.backup
   pub left : IsRangeLeft torn (at + copy_place s k) s.max_size r.copy.items old new
 
 -- The first copies of the table say it, and so does the one that was read; the others read as they did.
-pub record AreMendedTo (s : SuperPart) (at own : ℕ) (c : Content) (count : ℕ) (old new : List ℕ) : Type 0 where
+pub record AreMendedTo (s : SuperPart) (at own : ℕ) (c : Content) (count : ℕ)
+    (old new : List ℕ) : Type 0 where
   pub differs : DifferWithin (at + 12288) (2 * s.slots * s.max_size) old new
   pub own_reads : copy_reads s own (copy new at s.size) ≡ Some c
   pub done : (k : ℕ) → k < count → copy_reads s k (copy new at s.size) ≡ Some c
@@ -53,7 +57,8 @@ pub record AreTablesMended (s : SuperPart) (at : ℕ) (c : Content) (old new : L
   pub copies : (k : ℕ) → k < 2 * s.slots → copy_reads s k (copy new at s.size) ≡ Some c
 
 -- the table is read still, under the premise on failed writes
-pub record AreTablesLeft (torn : Tears) (s : SuperPart) (at : ℕ) (c : Content) (old new : List ℕ) : Type 0 where
+pub record AreTablesLeft (torn : Tears) (s : SuperPart) (at : ℕ) (c : Content)
+    (old new : List ℕ) : Type 0 where
   pub differs : DifferWithin (at + 12288) (2 * s.slots * s.max_size) old new
   pub reads : IsHonest torn → table_read s (copy new at s.size) ≡ Some c
 

@@ -1,4 +1,5 @@
-ghost use Rattle.std.specs.Prelude.{◌≡◌, ℕ, ◌+◌, ◌-◌, ◌*◌, ◌^◌, ◌<◌, ◌≤◌, ◌&&◌, length, [], ◌∷◌, not, IsTrue, IsFalse, vec_capacity};
+ghost use Rattle.std.specs.Prelude.{◌≡◌, ℕ, ◌+◌, ◌^◌, ◌<◌, ◌≤◌, ◌&&◌, length, [], ◌∷◌, not, IsTrue};
+ghost use Rattle.std.specs.Prelude.{vec_capacity};
 ghost use Rattle.std.specs.Prelude.{Some, None, true, false, IfOk, IfSome, MatchOption};
 ghost use Rattle.std.specs.List.{list_all, flat_map, range_with_len};
 ghost use Rattle.unit_alloc.specs.Owning.{is_owned, handed, unowned};
@@ -50,7 +51,8 @@ impl SuperPart {
         requires bounded { IsBounded self.now }
         requires part { part < length owners.old.parts }
         requires units { owners.old.units ≡ unit_count self.now }
-        requires inside { list_all (λ e. is_at_unit self.now e && lies_in_units self.now e) extents.now ≡ true }
+        requires inside { list_all (λ e. is_at_unit self.now e && lies_in_units self.now e) extents.now
+            ≡ true }
         ensures decided { result ≡ are_free owners.old (flat_map (units_in self.now) extents.now) }
         ensures claimed { IsTrue result →
             owners.new ≡ handed owners.old part (flat_map (units_in self.now) extents.now) }
@@ -89,16 +91,20 @@ impl SuperPart {
 
     /// The map of the units that each partition of a table has, and each partition's part. None where
     /// a unit is taken twice.
-    pub(crate) fn own_units(&self, alloc: Global, table: &Table) -> Result<Option<(Owners, Vec<u32>)>, Memory>
+    pub(crate) fn own_units(
+        &self,
+        alloc: Global,
+        table: &Table,
+    ) -> Result<Option<(Owners, Vec<u32>)>, Memory>
         requires bounded { IsBounded self.now }
         requires few { length (content table.now).partitions ≤ 128 }
         requires inside { list_all (λ e. is_at_unit self.now e && lies_in_units self.now e)
             (content table.now).extents ≡ true }
-        ensures decided { IfOk result (λ map. MatchOption map
-            (are_different (flat_map (units_of self.now (content table.now)) (content table.now).partitions) ≡ false)
-            (λ m. are_different (flat_map (units_of self.now (content table.now))
-                (content table.now).partitions) ≡ true)) }
-        ensures map { IfOk result (λ map. IfSome map (λ m. IsMapOf self.now (content table.now) m.0 m.1.items)) }
+        ensures decided { let c = content table.now in
+            let different = are_different (flat_map (units_of self.now c) c.partitions) in
+            IfOk result (λ map. MatchOption map (different ≡ false) (λ m. different ≡ true)) }
+        ensures map { IfOk result (λ map. IfSome map (λ m.
+            IsMapOf self.now (content table.now) m.0 m.1.items)) }
         ensures room { IfOk result (λ map. IfSome map (λ m. 128 ≤ vec_capacity m.1)) }
     {
         let mut owners = Owners::new(alloc, self.unit_count() as u32, PARTS)?;

@@ -1,4 +1,5 @@
-ghost use Rattle.std.specs.Prelude.{◌≡◌, ◌⊎◌, ℕ, ◌+◌, ◌^◌, ◌<◌, ◌≤◌, length, true, false, Some, Err, IsTrue, IfOk, IfSome, OnErr};
+ghost use Rattle.std.specs.Prelude.{◌≡◌, ◌⊎◌, ℕ, ◌+◌, ◌^◌, ◌<◌, ◌≤◌, length, true, false, Some, Err};
+ghost use Rattle.std.specs.Prelude.{IsTrue, IfOk, IfSome, OnErr};
 ghost use Rattle.std.specs.Prelude.{vec_capacity};
 ghost use Rattle.std.specs.Result.{IsErrOf, result_ok};
 ghost use Rattle.fb_frame.specs.Causes.{Rose};
@@ -129,7 +130,7 @@ pub(crate) fn read_super<K: Disk>(
     ensures spelled { IfOk result (λ r. IsSpelled s.now r) }
     ensures bad { (bad : BadImage) → IsErrOf result (OpenError.Bad bad) →
         IfSome (open_bytes (K.told disk.old)) (λ file.
-            table_in parts.now s.now (copy file at s.now.size) ≡ Err bad) }
+        table_in parts.now s.now (copy file at s.now.size) ≡ Err bad) }
     ensures there { IsErrOf result OpenError.Absent → ⊥ }
     ensures kept { FilesKept (K.told disk.old) (K.told disk.new) }
     ensures cause { IsErrOf result OpenError.Disk → Rose (K.told disk.old).faults (K.told disk.new).faults }

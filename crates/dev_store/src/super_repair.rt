@@ -1,5 +1,5 @@
-ghost use Rattle.std.specs.Prelude.{◌≡◌, ◌⊎◌, ◌≢◌, ℕ, ◌+◌, ◌-◌, ◌*◌, ◌^◌, ◌<◌, ◌≤◌, ◌↔◌, not, length, Some, IsTrue};
-ghost use Rattle.std.specs.Prelude.{IfSome, OnOk, OnErr, if◌then◌else◌};
+ghost use Rattle.std.specs.Prelude.{◌≡◌, ◌+◌, ◌-◌, ◌*◌, ◌^◌, ◌<◌, ◌≤◌, ◌↔◌, length, Some, IsTrue};
+ghost use Rattle.std.specs.Prelude.{IfSome, OnOk, OnErr};
 ghost use Rattle.fb_frame.specs.Causes.{Rose};
 ghost use Rattle.fb_frame.specs.Told.{Both};
 ghost use Rattle.dev_disk.specs.Files.{IsInside, DifferWithin, copy};
@@ -69,7 +69,12 @@ impl SuperPart {
 }
 
 /// Writes a block of the geometry anew, unless it holds the geometry.
-fn mend_geometry<K: Disk>(disk: &mut K, s: &SuperPart, at: u64, second: bool) -> Result<(), DiskFault>
+fn mend_geometry<K: Disk>(
+    disk: &mut K,
+    s: &SuperPart,
+    at: u64,
+    second: bool,
+) -> Result<(), DiskFault>
     requires bounded { IsBounded s.now }
     requires inside { IsInside (K.told disk.old).open_length at s.now.size }
     requires end { at + s.now.size < 2 ^ 64 }

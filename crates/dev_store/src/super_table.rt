@@ -79,7 +79,11 @@ impl SuperPart {
     }
 
     /// Which block of the geometry is read: the first that holds it.
-    pub(crate) fn find_geometry<K: Disk>(&self, disk: &mut K, at: u64) -> Result<Option<bool>, DiskFault>
+    pub(crate) fn find_geometry<K: Disk>(
+        &self,
+        disk: &mut K,
+        at: u64,
+    ) -> Result<Option<bool>, DiskFault>
         requires bounded { IsBounded self.now }
         requires inside { IsInside (K.told disk.old).open_length at self.now.size }
         requires end { at + self.now.size < 2 ^ 64 }
@@ -121,10 +125,12 @@ impl SuperPart {
         ensures table { IfOk result (λ found. IfSome (open_bytes (K.told disk.old)) (λ file.
             option_map content found ≡ copy_reads self.now number (copy file at self.now.size))) }
         ensures sound { IfOk result (λ found. IfSome found (λ table. IsTrue (is_sound (content table)))) }
-        ensures fits { IfOk result (λ found. IfSome found (λ table. table_size (content table) ≤ self.now.max_size)) }
+        ensures fits { IfOk result (λ found. IfSome found (λ table.
+            table_size (content table) ≤ self.now.max_size)) }
         ensures kept { FilesKept (K.told disk.old) (K.told disk.new) }
         ensures only { OnErr result (IsErrOf result OpenError.Disk ⊎ IsErrOf result OpenError.Memory) }
-        ensures cause { IsErrOf result OpenError.Disk → Rose (K.told disk.old).faults (K.told disk.new).faults }
+        ensures cause { IsErrOf result OpenError.Disk →
+            Rose (K.told disk.old).faults (K.told disk.new).faults }
         ensures same { K.lent disk.new ≡ K.lent disk.old }
     {
         let bytes = &mut buffer[..self.max_size as usize];
@@ -153,10 +159,12 @@ impl SuperPart {
         ensures table { IfOk result (λ found. IfSome (open_bytes (K.told disk.old)) (λ file.
             IsTableFound self.now (copy file at self.now.size) found)) }
         ensures sound { IfOk result (λ found. IfSome found (λ f. IsTrue (is_sound (content f.table)))) }
-        ensures fits { IfOk result (λ found. IfSome found (λ f. table_size (content f.table) ≤ self.now.max_size)) }
+        ensures fits { IfOk result (λ found. IfSome found (λ f.
+            table_size (content f.table) ≤ self.now.max_size)) }
         ensures kept { FilesKept (K.told disk.old) (K.told disk.new) }
         ensures only { OnErr result (IsErrOf result OpenError.Disk ⊎ IsErrOf result OpenError.Memory) }
-        ensures cause { IsErrOf result OpenError.Disk → Rose (K.told disk.old).faults (K.told disk.new).faults }
+        ensures cause { IsErrOf result OpenError.Disk →
+            Rose (K.told disk.old).faults (K.told disk.new).faults }
         ensures same { K.lent disk.new ≡ K.lent disk.old }
     {
         let first = match self.read_copy(alloc, disk, at, 0, buffer) {

@@ -71,9 +71,7 @@ impl SuperPart {
         requires { IsBounded self.now }
         ensures { result ≡ list_all (λ e. is_at_unit self.now e && lies_in_units self.now e) extents.now }
     {
-        extents
-            .iter()
-            .all(|extent| self.is_at_unit(extent) && self.lies_in_units(extent))
+        extents.iter().all(|extent| self.is_at_unit(extent) && self.lies_in_units(extent))
     }
 
     /// Whether an extent is whole units.
@@ -104,8 +102,8 @@ impl SuperPart {
     /// Whether the extents of a partition are whole units, and the partition whole blocks.
     fn is_placed(&self, extents: &[Extent], partition: &Partition) -> bool
         requires { IsBounded self.now }
-        ensures { result ≡ (are_whole self.now (take partition.now.count (drop partition.now.first extents.now))
-            && bytes_in (take partition.now.count (drop partition.now.first extents.now)) % 4096 == 0) }
+        ensures { let own = take partition.now.count (drop partition.now.first extents.now) in
+            result ≡ (are_whole self.now own && bytes_in own % 4096 == 0) }
     {
         let own = extents_of(extents, partition);
         self.are_whole(own) && bytes_in(own) % 4096 == 0
@@ -223,7 +221,8 @@ fn share(table: &Table, partition: &Partition, group: &Group) -> u128
 /// How many bytes the partitions of a group hold together.
 fn group_bytes(table: &Table, group: &Group) -> u128
     requires { length (content table.now).partitions ≤ 128 }
-    ensures { result ≡ group_bytes group.now.name (map (size_in (content table.now)) (content table.now).partitions) }
+    ensures { let c = content table.now in
+        result ≡ group_bytes group.now.name (map (size_in c) c.partitions) }
 {
     let mut bytes = 0;
     for partition in &table.partitions {
@@ -244,8 +243,9 @@ fn group_fits(table: &Table, group: &Group) -> bool
 /// Whether each group has no limit, or its partitions hold at most that.
 fn each_fits(table: &Table) -> bool
     requires { length (content table.now).partitions ≤ 128 }
-    ensures { result ≡ list_all (λ g. g.limit == 0 || nat_le (group_bytes g.name
-        (map (size_in (content table.now)) (content table.now).partitions)) g.limit) (content table.now).groups }
+    ensures { let c = content table.now in
+        result ≡ list_all (λ g. g.limit == 0
+        || nat_le (group_bytes g.name (map (size_in c) c.partitions)) g.limit) c.groups }
 {
     table.groups.iter().all(|group| group_fits(table, group))
 }

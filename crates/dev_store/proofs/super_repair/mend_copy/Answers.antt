@@ -43,9 +43,9 @@ returns-then-says_same-clause-kept g c = OpenKept-files (g.K.Disk.told c.args.di
 pub write_at-requires : goal.write_at-requires
 write_at-requires g c = record {
   inside =
-    let a = g.K.Disk.told c.args.disk.now in
-    let b = g.K.Disk.told c.read_at.new.self in
-    subst (IsInside b.open_length c.args.at) (sym (ap length c.as_slice-copy.ensures.value ∙ c.requires.spelled.long)) (inside-kept a b c.args.at c.args.s.now.max_size c.read_at.ensures.kept c.requires.inside);
+      let a = g.K.Disk.told c.args.disk.now in
+      let b = g.K.Disk.told c.read_at.new.self in
+      subst (IsInside b.open_length c.args.at) (sym (ap length c.as_slice-copy.ensures.value ∙ c.requires.spelled.long)) (inside-kept a b c.args.at c.args.s.now.max_size c.read_at.ensures.kept c.requires.inside);
 }
 
 pub returns-in_default-write_at-clause-left : goal.returns-in_default-write_at-clause-left

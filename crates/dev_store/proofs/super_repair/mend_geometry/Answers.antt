@@ -16,10 +16,10 @@ overflow_add-at g c =
 pub write_at-requires : goal.write_at-requires
 write_at-requires g c = record {
   inside =
-    let a = g.K.Disk.told c.args.disk.now in
-    let b = g.K.Disk.told c.reads_geometry.new.disk in
-    let l = block-inside c.args.s.now c.args.second c.requires.bounded in
-    range-inside _ c.args.at c.args.s.now.size c.geometry_place.result (length c.put_geometry.new.block) (inside-kept a b c.args.at c.args.s.now.size c.reads_geometry.ensures.kept c.requires.inside) (omega (arith, l, c.geometry_place.ensures, c.put_geometry.ensures.long));
+      let a = g.K.Disk.told c.args.disk.now in
+      let b = g.K.Disk.told c.reads_geometry.new.disk in
+      let l = block-inside c.args.s.now c.args.second c.requires.bounded in
+      range-inside _ c.args.at c.args.s.now.size c.geometry_place.result (length c.put_geometry.new.block) (inside-kept a b c.args.at c.args.s.now.size c.reads_geometry.ensures.kept c.requires.inside) (omega (arith, l, c.geometry_place.ensures, c.put_geometry.ensures.long));
 }
 
 pub returns-in_default-clause-within : goal.returns-in_default-clause-within
