@@ -96,13 +96,13 @@ OneStateReads = (slots : ℕ) (first second : List ℕ) (old new : ℕ × State)
     record_of slots second ≡ Some old →
     ReadsAs (Some old) (Some new) (record_of slots first) →
     (option_or (record_of slots first) (record_of slots second) ≡ Some old)
-        ⊎ (option_or (record_of slots first) (record_of slots second) ≡ Some new)
+    ⊎ (option_or (record_of slots first) (record_of slots second) ≡ Some new)
 
 -- The same of the table's first copy and its backup.
 abbrev pub OneTableReads : Type 0
 OneTableReads = (s : SuperPart) (super : List ℕ) (old new : Content) → copy_reads s s.slots super ≡ Some old →
     ReadsAs (Some old) (Some new) (copy_reads s 0 super) →
-        (table_read s super ≡ Some old) ⊎ (table_read s super ≡ Some new)
+    (table_read s super ≡ Some old) ⊎ (table_read s super ≡ Some new)
 
 -- Over a disk that tells no bytes a device with zeros stands for any of the same lengths: what calls refuse
 -- is the same.

@@ -39,14 +39,19 @@ new_part p = record { name = p.name; bytes = zeros p.size }
 -- the group `default` without a limit, and no partition
 abbrev pub new_super : Option SuperPart → SuperValue
 new_super None = no_super
-new_super (Some s) = record { minor = 0; flags = 0; groups = record { name = codes "default"; limit = 0 }
-    ∷ []; logical = [] }
+new_super (Some s) = record {
+  minor = 0;
+  flags = 0;
+  groups = record { name = codes "default"; limit = 0 }
+      ∷ [];
+  logical = [];
+}
 
 -- the device of a new image
 abbrev pub new_device : LayoutValue → Bool → Dev
 new_device layout unlocked =
     device_with layout (new_state layout unlocked) (map new_part layout.physical)
-        (new_super layout.super_part)
+    (new_super layout.super_part)
 
 -- a block's bytes, and zeros up to its size
 abbrev pub filled_up : ℕ → List ℕ → List ℕ

@@ -34,7 +34,7 @@ flags_bytes f = flag f.successful ∷ flag f.unbootable ∷ f.retries ∷ []
 unfoldable pub record_head : ℕ → State → List ℕ
 record_head version s =
     codes "FBST" ++ to_le_bytes w32 version ++ flag s.locked ∷ slot_byte s.active ∷ []
-        ++ flat_map flags_bytes s.flags
+    ++ flat_map flags_bytes s.flags
     ++ flag s.userspace ∷ zeros 15
 
 -- the block of a state, in one of the versions
@@ -63,7 +63,7 @@ unfoldable pub is_state : ℕ → State → Bool
 is_state slots s =
     length s.flags == 2
     && ((slots == 2 && list_all is_flags s.flags) || (slots == 0 && is_first s.active
-        && list_all is_blank s.flags))
+    && list_all is_blank s.flags))
 
 -- the block is the record of a state in this version
 unfoldable pub is_record : ℕ → ℕ → List ℕ → Bool

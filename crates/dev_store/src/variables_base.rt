@@ -85,7 +85,7 @@ fn new_row<'a>(facts: &Facts, place: usize, base: &'a [u8]) -> Option<Row<'a>>
 pub fn base_row_at<'a>(facts: &Facts<'a>, place: usize) -> Option<Row<'a>>
     ensures { option_map row_of result
         ≡ slice_get (filter_map (has_slot_row (told_device facts.now))
-            (base_names (told_device facts.now))) place }
+        (base_names (told_device facts.now))) place }
 {
     let mut left = place;
     let count = facts.physical.len() + facts.logical.len();
