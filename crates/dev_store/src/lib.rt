@@ -25,6 +25,7 @@ mod making;
 mod making_blocks;
 mod open;
 mod owners;
+mod reads;
 mod record;
 pub mod state;
 mod states_read;
