@@ -3,7 +3,6 @@ use crate::inspect::inspect;
 use crate::memory_dir::{DirFile, MemoryDir};
 use crate::product::{Flaw, Product, ProductError};
 use fb_frame::name::Name;
-use fb_frame::word::Word;
 use product_info::info::InfoKind;
 use sparse_image::errors::{SparseError, SparseKind};
 use std::alloc::{AllocError, Global};
@@ -183,21 +182,25 @@ fn falcon(
     Ok(MemoryDir::new(alloc, "out", files, fails.to_vec(alloc)?)?)
 }
 
-/// What is answered in place of a product: the file that has a flaw, or at which the folder failed.
-fn refusal<D: ProductDir>(
-    alloc: Global,
-    dir: &mut D,
-    wipe: bool,
-) -> Result<Option<(Word, Option<Flaw>)>, Fail> {
+/// There is an error, of this file, with this flaw, or of the folder.
+fn says(error: Option<&ProductError>, name: &str, flaw: Option<&Flaw>) -> bool {
+    match (error, flaw) {
+        (Some(ProductError::Bad(file, why)), Some(flaw)) => {
+            file.bytes() == name.as_bytes() && why == flaw
+        }
+        (Some(ProductError::Directory(file)), None) => file.bytes() == name.as_bytes(),
+        _ => false,
+    }
+}
+
+/// The folder is entered, and no product is answered of it: this file has this flaw, or the folder failed
+/// at this file.
+fn refuses<D: ProductDir>(alloc: Global, dir: &mut D, name: &str, flaw: Option<&Flaw>) -> bool {
     if !dir.enter(alloc, "out").unwrap_or(false) {
-        return Ok(None);
+        return false;
     }
-    match inspect(alloc, dir, wipe) {
-        Ok(_) => Ok(None),
-        Err(ProductError::Bad(file, flaw)) => Ok(Some((file, Some(flaw)))),
-        Err(ProductError::Directory(file)) => Ok(Some((file, None))),
-        Err(ProductError::Memory) => Err("memory")?,
-    }
+    let error = inspect(alloc, dir, false).err();
+    says(error.as_ref(), name, flaw)
 }
 
 #[test]
@@ -224,55 +227,65 @@ fn inspects_the_falcon(rt: HostRuntime) -> Result<(), Fail> {
     Ok(())
 }
 
+/// The falcon's folder with this file, or without it, is refused for it, and no read was a long one.
+fn is_flawed(alloc: Global, name: &str, bytes: Option<&[u8]>, flaw: Flaw) -> Result<bool, Fail> {
+    let mut dir = falcon(alloc, name, bytes, &[])?;
+    let refused = refuses(alloc, &mut &mut dir, name, Some(&flaw));
+    Ok(refused && dir.longest() <= 65_536)
+}
+
+/// A file of zeros.
+fn zeros(alloc: Global, len: usize) -> Result<Vec<u8>, AllocError> {
+    let mut file = Vec::new(alloc);
+    file.resize(len, 0)?;
+    Ok(file)
+}
+
 #[test]
-fn refuses_flawed_products(rt: HostRuntime) -> Result<(), Fail> {
+fn refuses_flawed_info_files(rt: HostRuntime) -> Result<(), Fail> {
     let alloc = rt.alloc();
-    let mut spoilt = super_empty(alloc, None)?;
-    spoilt.truncate(4743);
+    let long = zeros(alloc, 65_537)?;
+    let form = info(1, InfoKind::BadLine);
+    let version = info(1, InfoKind::NoVersion);
+    assert!(rt; is_flawed(alloc, "android-info.txt", None, Flaw::Absent)?);
+    assert!(rt; is_flawed(alloc, "android-info.txt", Some(&long), Flaw::TooLong)?);
+    assert!(rt; is_flawed(alloc, "android-info.txt", Some(b"require =1"), form)?);
+    assert!(rt; is_flawed(alloc, "fastboot-info.txt", None, Flaw::Absent)?);
+    assert!(rt; is_flawed(alloc, "fastboot-info.txt", Some(&long), Flaw::TooLong)?);
+    assert!(rt; is_flawed(alloc, "fastboot-info.txt", Some(b""), version)?);
+    Ok(())
+}
+
+#[test]
+fn refuses_flawed_images(rt: HostRuntime) -> Result<(), Fail> {
+    let alloc = rt.alloc();
+    let checksum = crc_file(alloc)?;
+    let empty = image(SparseKind::Empty, 0);
+    let chunk = image(SparseKind::CrcChunk, 4152);
+    assert!(rt; is_flawed(alloc, "boot.img", None, Flaw::Absent)?);
+    assert!(rt; is_flawed(alloc, "boot.img", Some(b""), empty)?);
+    assert!(rt; is_flawed(alloc, "product.img", Some(&checksum), chunk)?);
+    assert!(rt; is_flawed(alloc, "system_other.img", None, Flaw::Absent)?);
+    Ok(())
+}
+
+#[test]
+fn refuses_flawed_tables(rt: HostRuntime) -> Result<(), Fail> {
+    let alloc = rt.alloc();
+    let long = zeros(alloc, 131_073)?;
+    let mut short = super_empty(alloc, None)?;
+    short.truncate(4743);
     let extent = Extent {
         sectors: 8,
         target: 640,
     };
     let filled = super_empty(alloc, Some(extent))?;
-    let crc = crc_file(alloc)?;
-    let mut long = Vec::new(alloc);
-    long.resize(131_073, 0)?;
-    let rows: [(&str, Option<&[u8]>, Flaw); 14] = [
-        ("android-info.txt", None, Flaw::Absent),
-        ("android-info.txt", Some(&long[..65_537]), Flaw::TooLong),
-        (
-            "android-info.txt",
-            Some(b"require =1"),
-            info(1, InfoKind::BadLine),
-        ),
-        ("fastboot-info.txt", None, Flaw::Absent),
-        ("fastboot-info.txt", Some(&long[..65_537]), Flaw::TooLong),
-        ("fastboot-info.txt", Some(b""), info(1, InfoKind::NoVersion)),
-        ("boot.img", None, Flaw::Absent),
-        ("boot.img", Some(b""), image(SparseKind::Empty, 0)),
-        ("product.img", Some(&crc), image(SparseKind::CrcChunk, 4152)),
-        ("system_other.img", None, Flaw::Absent),
-        ("super_empty.img", None, Flaw::Absent),
-        ("super_empty.img", Some(&long), Flaw::TooLong),
-        (
-            "super_empty.img",
-            Some(&spoilt),
-            Flaw::Meta(MetaError::ShortInput),
-        ),
-        (
-            "super_empty.img",
-            Some(&filled),
-            Flaw::Meta(MetaError::Unsupported),
-        ),
-    ];
-    for (name, bytes, flaw) in rows {
-        let mut dir = falcon(alloc, name, bytes, &[])?;
-        let found = refusal(alloc, &mut &mut dir, false)?;
-        let (file, why) = found.ok_or("a flaw")?;
-        assert_eq!(rt; file.bytes(), name.as_bytes());
-        assert_eq!(rt; why, Some(flaw), "{name}");
-        assert!(rt; dir.longest() <= 65_536, "{}", dir.longest());
-    }
+    let missing = Flaw::Meta(MetaError::ShortInput);
+    let unsupported = Flaw::Meta(MetaError::Unsupported);
+    assert!(rt; is_flawed(alloc, "super_empty.img", None, Flaw::Absent)?);
+    assert!(rt; is_flawed(alloc, "super_empty.img", Some(&long), Flaw::TooLong)?);
+    assert!(rt; is_flawed(alloc, "super_empty.img", Some(&short), missing)?);
+    assert!(rt; is_flawed(alloc, "super_empty.img", Some(&filled), unsupported)?);
     Ok(())
 }
 
@@ -290,10 +303,7 @@ fn names_the_file_of_a_failed_call(rt: HostRuntime) -> Result<(), Fail> {
     ];
     for (fails, name) in rows {
         let mut dir = falcon(alloc, "", None, &[fails])?;
-        let found = refusal(alloc, &mut dir, false)?;
-        let (file, why) = found.ok_or("a fault")?;
-        assert_eq!(rt; file.bytes(), name.as_bytes(), "{fails}");
-        assert_eq!(rt; why, None, "{name}");
+        assert!(rt; refuses(alloc, &mut dir, name, None), "{fails}");
     }
     Ok(())
 }
@@ -322,10 +332,7 @@ fn counts_the_chunks_of_all_images(rt: HostRuntime) -> Result<(), Fail> {
     add(&mut files, alloc, "a.img", fills(alloc, 1_000_000)?)?;
     add(&mut files, alloc, "b.img", fills(alloc, 1)?)?;
     let mut dir = MemoryDir::new(alloc, "out", files, Vec::new(alloc))?;
-    let found = refusal(alloc, &mut dir, false)?;
-    let (file, why) = found.ok_or("a flaw")?;
-    assert_eq!(rt; file.bytes(), b"b.img".as_slice());
-    assert_eq!(rt; why, Some(Flaw::TooManyChunks));
+    assert!(rt; refuses(alloc, &mut dir, "b.img", Some(&Flaw::TooManyChunks)));
     assert!(rt; dir.longest() <= 65_536, "{}", dir.longest());
     Ok(())
 }
