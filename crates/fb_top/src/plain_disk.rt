@@ -88,7 +88,8 @@ fn store<K: Disk>(disk: &mut K, device: &PlainDevice) -> Result<(), DiskFault>
         12288 (drop 12288 device.now.image.items)) }
     ensures length { (K.told disk.new).open_length ≡ (K.told disk.old).open_length }
     ensures path { (K.told disk.new).open_path ≡ (K.told disk.old).open_path }
-    ensures others { KeepsUnopened (K.told disk.old).files (K.told disk.new).files (K.told disk.old).open_path }
+    ensures others { KeepsUnopened (K.told disk.old).files (K.told disk.new).files
+        (K.told disk.old).open_path }
     ensures cause { HasCause (K.told disk.old).faults (K.told disk.new).faults result }
     ensures same { K.lent disk.new ≡ K.lent disk.old }
 {
@@ -119,7 +120,8 @@ pub fn send_to<K: Disk>(
     ensures held { OnOk result (IsImage (open_bytes (K.told disk.new)) peer.new.device.image.items) }
     ensures halted { OnErr result (peer.new.device.mode ≡ Halted) }
     ensures path { (K.told disk.new).open_path ≡ (K.told disk.old).open_path }
-    ensures others { KeepsUnopened (K.told disk.old).files (K.told disk.new).files (K.told disk.old).open_path }
+    ensures others { KeepsUnopened (K.told disk.old).files (K.told disk.new).files
+        (K.told disk.old).open_path }
     ensures cause { HasCause (K.told disk.old).faults (K.told disk.new).faults result }
     ensures same { K.lent disk.new ≡ K.lent disk.old }
 {
