@@ -19,8 +19,6 @@ mod layout_line;
 mod layout_super;
 mod layout_text;
 pub mod make;
-#[cfg(test)]
-mod make_tests;
 mod making;
 mod making_blocks;
 mod open;
@@ -69,8 +67,3 @@ pub fn laws()
     ensures made_stands { MadeStands }
     ensures zeroed_tells { ZeroedTells }
 {}
-
-#[cfg(test)]
-mod layout_tests;
-#[cfg(test)]
-mod open_tests;

@@ -11,8 +11,6 @@ pub mod dir_bytes;
 pub mod folder_dir;
 mod folder_path;
 pub mod inspect;
-#[cfg(test)]
-mod inspect_tests;
 pub mod memory_dir;
 pub mod options;
 pub mod plan;
@@ -20,12 +18,8 @@ mod plan_listed;
 mod plan_move;
 mod plan_moves;
 pub mod plan_targets;
-#[cfg(test)]
-mod plan_tests;
 pub mod product;
 pub mod read;
-#[cfg(test)]
-mod tests;
 
 /// Worked examples of products, plans and questions.
 pub fn rows()

@@ -27,6 +27,3 @@ pub fn laws()
     ensures tasks_read { TasksRead }
     ensures tasks_spelled { TasksSpelled }
 {}
-
-#[cfg(test)]
-mod tests;

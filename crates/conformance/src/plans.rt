@@ -1,10 +1,10 @@
-use crate::answers::{Answers, Part};
-use crate::options::{Options, SlotChoice};
-use crate::plan::{Order, PlanError, plan};
-use crate::product::Product;
 use fb_frame::items::Items;
 use fb_frame::name::Name;
 use fb_frame::slot::Slot;
+use flash_plan::answers::{Answers, Part};
+use flash_plan::options::{Options, SlotChoice};
+use flash_plan::plan::{Order, PlanError, plan};
+use flash_plan::product::Product;
 use product_info::tasks::read_tasks;
 use sparse_image::index::{Index, check};
 use sparse_image::source::MemoryBytes;

@@ -1,13 +1,13 @@
 ghost use Rattle.std.specs.Prelude.{◌≡◌, ◌≤◌, Some, IsTrue, IfOk};
 ghost use Rattle.flash_plan.specs.Files.{HasSize, IsFile, IsFileName};
 
-use crate::dir::{DirFault, EnterError, ProductDir, is_file_name};
-use crate::dir_bytes::DirBytes;
-use crate::folder_dir::FolderDir;
-use crate::memory_dir::{DirFile, MemoryDir};
-use crate::read::{ReadError, read_file};
 use fb_frame::items::Items;
 use fb_frame::word::Word;
+use flash_plan::dir::{DirFault, EnterError, ProductDir, is_file_name};
+use flash_plan::dir_bytes::DirBytes;
+use flash_plan::folder_dir::FolderDir;
+use flash_plan::memory_dir::{DirFile, MemoryDir};
+use flash_plan::read::{ReadError, read_file};
 use sparse_image::index::check;
 use std::alloc::{AllocError, Global};
 use std::fs;

@@ -1,10 +1,10 @@
 //! Images that were made, against those that another program made.
-use crate::errors::OpenError;
-use crate::layout::{Layout, read_layout};
-use crate::make::make;
 use dev_disk::disk::Disk;
 use dev_disk::file::FileDisk;
 use dev_disk::memory::MemoryDisk;
+use dev_store::errors::OpenError;
+use dev_store::layout::{Layout, read_layout};
+use dev_store::make::make;
 use fb_frame::digest::digest;
 use std::alloc::Global;
 use std::fs;

@@ -1,76 +1,20 @@
-use crate::all_rows::all_rows;
-use crate::cells::{ByteList, Cells};
-use crate::copies::copy_bytes;
-use crate::device::{BothFlags, Dev, Logical, Mode, Physical, SlotFlags};
-use crate::editing::{created, deleted, relocked};
-use crate::refusal::Refusal;
-use crate::refusals::{create_refusal, update_refusal};
-use crate::sparse::image;
-use crate::step::Step;
-use crate::steps::{can, run};
-use crate::tables::table_refusal;
-use crate::variables::value;
+use crate::devices::{filled, flags, named, plain};
+use dev_model::all_rows::all_rows;
+use dev_model::cells::Cells;
+use dev_model::device::{BothFlags, Dev, Logical, Mode};
+use dev_model::editing::{created, deleted, relocked};
+use dev_model::refusal::Refusal;
+use dev_model::refusals::{create_refusal, update_refusal};
+use dev_model::sparse::image;
+use dev_model::step::Step;
+use dev_model::steps::{can, run};
+use dev_model::tables::table_refusal;
+use dev_model::variables::value;
 use fb_frame::items::Items;
 use fb_frame::name::Name;
-use fb_frame::slot::Slot;
 use fb_frame::tables::{TableDevice, TableGeometry, TableGroup, TablePartition, Tables};
 use std::alloc::{AllocError, Global};
 use std::test::Fail;
-
-fn named(text: &[u8]) -> Result<Name, Fail> {
-    let name = Name::read(text).ok_or("a name")?;
-    Ok(name)
-}
-
-fn filled(alloc: Global, len: usize, b: u8) -> Result<ByteList, AllocError> {
-    let mut bytes = Vec::new(alloc);
-    bytes.resize(len, b)?;
-    Ok(Items::from_vec(bytes))
-}
-
-/// The flags of a slot that has so many retries.
-const fn flags(retries: u8) -> SlotFlags {
-    SlotFlags {
-        successful: false,
-        unbootable: false,
-        retries,
-    }
-}
-
-/// A device without slots and without super, whose partition `boot` has four blocks 0xEE.
-fn plain(alloc: Global) -> Result<Dev, Fail> {
-    let mut physical = Items::new(alloc);
-    let name = named(b"boot")?;
-    let bytes = filled(alloc, 16_384, 0xEE)?;
-    physical.push(Physical { name, bytes })?;
-    Ok(Dev {
-        product: copy_bytes(alloc, b"falcon")?,
-        serial: copy_bytes(alloc, b"S1")?,
-        vars: Items::new(alloc),
-        slots: 0,
-        active: Slot::A,
-        flags: BothFlags {
-            a: flags(0),
-            b: flags(0),
-        },
-        locked: false,
-        mode: Mode::Bootloader,
-        max: 131_072,
-        physical,
-        super_name: None,
-        geometry: TableGeometry {
-            max_size: 0,
-            slots: 0,
-        },
-        groups: Items::new(alloc),
-        logical: Items::new(alloc),
-        unit: 0,
-        units: 0,
-        super_size: 0,
-        table_minor: 0,
-        table_flags: 0,
-    })
-}
 
 /// A device with two slots and a super of 59 units of 65,536 bytes, in userspace mode.
 fn slotted(alloc: Global) -> Result<Dev, Fail> {

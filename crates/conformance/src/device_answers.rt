@@ -1,70 +1,21 @@
-use crate::served::Served1;
-use crate::serves::serves;
-use dev_model::cells::ByteList;
+use crate::devices::{filled, flags, plain};
 use dev_model::copies::copy_bytes;
-use dev_model::device::{BothFlags, Dev, Mode, Physical, SlotFlags, Variable};
+use dev_model::device::{BothFlags, Dev, Mode, Physical, Variable};
 use fb_frame::framing::frame_head;
 use fb_frame::items::Items;
 use fb_frame::name::Name;
-use fb_frame::slot::Slot;
 use fb_frame::tables::{TableGeometry, TableGroup};
 use fb_frame::word::Word;
 use std::alloc::{AllocError, Global};
 use std::test::Fail;
-
-/// The flags of a slot that has so many retries.
-const fn flags(retries: u8) -> SlotFlags {
-    SlotFlags {
-        successful: false,
-        unbootable: false,
-        retries,
-    }
-}
-
-fn filled(alloc: Global, len: usize, b: u8) -> Result<ByteList, AllocError> {
-    let mut bytes = Vec::new(alloc);
-    bytes.resize(len, b)?;
-    Ok(Items::from_vec(bytes))
-}
+use wire_model::served::Served1;
+use wire_model::serves::serves;
 
 fn add(alloc: Global, parts: &mut Items<Physical>, name: &[u8], len: usize) -> Result<(), Fail> {
     let name = Name::read(name).ok_or("a name")?;
     let bytes = filled(alloc, len, 0xEE)?;
     parts.push(Physical { name, bytes })?;
     Ok(())
-}
-
-/// A device without slots and without super, whose partition `boot` has 16,384 bytes.
-fn plain(alloc: Global) -> Result<Dev, Fail> {
-    let mut physical = Items::new(alloc);
-    add(alloc, &mut physical, b"boot", 16_384)?;
-    Ok(Dev {
-        product: copy_bytes(alloc, b"falcon")?,
-        serial: copy_bytes(alloc, b"S1")?,
-        vars: Items::new(alloc),
-        slots: 0,
-        active: Slot::A,
-        flags: BothFlags {
-            a: flags(0),
-            b: flags(0),
-        },
-        locked: false,
-        mode: Mode::Bootloader,
-        max: 131_072,
-        physical,
-        super_name: None,
-        geometry: TableGeometry {
-            max_size: 0,
-            slots: 0,
-        },
-        groups: Items::new(alloc),
-        logical: Items::new(alloc),
-        unit: 0,
-        units: 0,
-        super_size: 0,
-        table_minor: 0,
-        table_flags: 0,
-    })
 }
 
 /// A device with two slots and a super of 59 units of 65,536 bytes, in userspace mode.

@@ -1,9 +1,9 @@
-use crate::info::InfoError;
-use crate::meeting::meets;
-use crate::requirement::Requirement;
-use crate::requirements::read_requirements;
-use crate::task::Action;
-use crate::tasks::read_tasks;
+use product_info::info::InfoError;
+use product_info::meeting::meets;
+use product_info::requirement::Requirement;
+use product_info::requirements::read_requirements;
+use product_info::task::Action;
+use product_info::tasks::read_tasks;
 use std::alloc::Global;
 use std::process::Abort;
 use std::str;

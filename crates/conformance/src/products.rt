@@ -1,8 +1,8 @@
-use crate::dir::ProductDir;
-use crate::inspect::inspect;
-use crate::memory_dir::{DirFile, MemoryDir};
-use crate::product::{Flaw, Product, ProductError};
 use fb_frame::name::Name;
+use flash_plan::dir::ProductDir;
+use flash_plan::inspect::inspect;
+use flash_plan::memory_dir::{DirFile, MemoryDir};
+use flash_plan::product::{Flaw, Product, ProductError};
 use product_info::info::InfoKind;
 use sparse_image::errors::{SparseError, SparseKind};
 use std::alloc::{AllocError, Global};

@@ -1,4 +1,4 @@
-use crate::layout::{Layout, LayoutFail, read_layout};
+use dev_store::layout::{Layout, LayoutFail, read_layout};
 use std::alloc::Global;
 use std::process::Abort;
 use std::str;

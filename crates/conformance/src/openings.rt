@@ -1,8 +1,8 @@
 //! Images that were spoilt, and what opening answers and makes of them.
-use crate::layout::read_layout;
-use crate::make::make;
-use crate::store::Store;
 use dev_disk::memory::MemoryDisk;
+use dev_store::layout::read_layout;
+use dev_store::make::make;
+use dev_store::store::Store;
 use fb_frame::digest::digest;
 use std::alloc::Global;
 use std::test::Fail;
