@@ -1,14 +1,14 @@
 -- What a path's file was and is, by the open file.
-use Rattle.std.proofs.Common.{◌≡◌, ◌∙◌, refl, sym, subst, ℕ, ◌≤◌, List, Option, Some, None, Result, Ok, Err}
+use Rattle.std.proofs.Common.{arith, ◌≡◌, ◌∙◌, refl, sym, subst, ℕ, ◌≤◌, List, Option, Some, None, Result, Ok, Err}
 use Rattle.std.specs.Prelude.{IsSome, IfSome}
 use Rattle.fb_frame.specs.Told.{Both}
 use Rattle.dev_model.specs.declared.bad_image.BadImage.{BadImage}
 use Rattle.dev_model.specs.declared.device.Dev.{Dev}
-use Rattle.dev_disk.specs.Files.{Files, content, KeepsOthers, KeepsUnopened}
+use Rattle.dev_disk.specs.Files.{Files, content, KeepsOthers, KeepsUnopened, StaysTorn}
 use Rattle.dev_disk.specs.Calls.{IsOpen}
 use Rattle.dev_disk.specs.Disks.{DiskTold, open_bytes, OpenKept}
 use Rattle.dev_store.specs.Stand.{stand}
-use Rattle.dev_store.specs.Opening.{StandsIn, IsBadImage, OpensTold, StandsAs, OnFile, LeavesImage}
+use Rattle.dev_store.specs.Opening.{StandsIn, IsBadImage, OpensTold, StandsAs, OnFile, LeavesImage, OthersKept}
 use Rattle.dev_store.specs.Reading.{IsThere, IsFileOpen}
 
 -- what the told open file stands for is what the path's file does
@@ -65,6 +65,18 @@ changes-file R old mid new path same o k h =
       others = subst (λ files. KeepsOthers files new.files path) same c.1.1;
     }
 
+-- no other file changed while the open one did
+others-of : (a b : Option Files) (p : Option (List ℕ)) (path : List ℕ) → IsOpen a p path → KeepsUnopened a b p → KeepsOthers a b path
+others-of None b p path o k = subst (λ f. KeepsOthers None f path) (sym (subst (KeepsUnopened None b) o k)) tt
+others-of (Some f) b p path o k = subst (KeepsUnopened (Some f) b) o k
+
+pub others-kept : (old mid new : DiskTold) (path : List ℕ) → mid.files ≡ old.files → old.faults ≤ mid.faults → StaysTorn old.torn mid.torn → IsFileOpen mid path → OpenKept mid new → OthersKept old new path
+others-kept old mid new path same later torn o k = record {
+  others = subst (λ files. KeepsOthers files new.files path) same (others-of mid.files new.files mid.open_path path o.opened k.others);
+  later = omega (arith, later, k.later);
+  torn = λ a b left t. k.torn a b left (torn a b left t);
+}
+
 -- an opening that failed and wrote nothing
 keeps-self : (files : Option Files) (path : List ℕ) → KeepsOthers files files path
 keeps-self None path = tt
@@ -78,9 +90,12 @@ stays-self (Some f) path = by (f path)
     by None = tt
     by (Some file) = record { stands = refl; owns = λ name. refl }
 
-pub leaves-same : (old new : DiskTold) (path : List ℕ) → new.files ≡ old.files → old.faults ≤ new.faults → LeavesImage old new path
-leaves-same old new path same later = record {
-  left = subst (λ files. OnFile StandsAs old.files files path) (sym same) (stays-self old.files path);
+pub leaves-same : (old new : DiskTold) (path : List ℕ) → new.files ≡ old.files → LeavesImage old new path
+leaves-same old new path same = subst (λ files. OnFile StandsAs old.files files path) (sym same) (stays-self old.files path)
+
+pub others-same : (old new : DiskTold) (path : List ℕ) → new.files ≡ old.files → old.faults ≤ new.faults → StaysTorn old.torn new.torn → OthersKept old new path
+others-same old new path same later torn = record {
   others = subst (λ files. KeepsOthers old.files files path) (sym same) (keeps-self old.files path);
   later = later;
+  torn = torn;
 }

@@ -3,7 +3,7 @@ use Rattle.std.specs.Prelude.{◌≡◌, ℕ, ◌≤◌, Bool, List, Option, Som
 use Rattle.fb_frame.specs.Told.{Both}
 use Rattle.dev_model.specs.declared.bad_image.BadImage.{BadImage}
 use Rattle.dev_model.specs.declared.device.Dev.{Dev}
-use Rattle.dev_disk.specs.Files.{Files, KeepsOthers}
+use Rattle.dev_disk.specs.Files.{Files, KeepsOthers, StaysTorn}
 use Rattle.dev_disk.specs.Calls.{IsOpen}
 use Rattle.dev_disk.specs.Disks.{DiskTold}
 use Rattle.dev_store.specs.Layouts.{LayoutValue}
@@ -65,9 +65,14 @@ pub record OpensImage (old new : DiskTold) (path : List ℕ) (dev : Dev) : Type 
   pub open_now : IsOpen new.files new.open_path path
   pub others : KeepsOthers old.files new.files path
   pub later : old.faults ≤ new.faults
+  pub torn : StaysTorn old.torn new.torn
 
--- An opening failed: the file of the path stands for what it did, and no other file changed.
-pub record LeavesImage (old new : DiskTold) (path : List ℕ) : Type 0 where
-  pub left : OnFile StandsAs old.files new.files path
+-- the file of the path stands for what it did
+abbrev pub LeavesImage : DiskTold → DiskTold → List ℕ → Type 0
+LeavesImage old new path = OnFile StandsAs old.files new.files path
+
+-- No file changed but that of the path, if any.
+pub record OthersKept (old new : DiskTold) (path : List ℕ) : Type 0 where
   pub others : KeepsOthers old.files new.files path
   pub later : old.faults ≤ new.faults
+  pub torn : StaysTorn old.torn new.torn

@@ -2,7 +2,7 @@
 ghost use Rattle.std.specs.Prelude.{◌≡◌, ◌⊎◌, ◌≤◌, OnOk, OnErr};
 ghost use Rattle.std.specs.Result.{IsErrOf};
 ghost use Rattle.fb_frame.specs.Causes.{Rose};
-ghost use Rattle.dev_disk.specs.Files.{KeepsOthers};
+ghost use Rattle.dev_disk.specs.Files.{KeepsOthers, StaysTorn};
 ghost use Rattle.dev_store.specs.Opening.{Makes};
 
 use crate::errors::OpenError;
@@ -24,6 +24,7 @@ fn make_image<K: Disk>(
     ensures cause { IsErrOf result CreateError.Disk →
         Rose (K.told disk.old).faults (K.told disk.new).faults }
     ensures later { (K.told disk.old).faults ≤ (K.told disk.new).faults }
+    ensures torn { StaysTorn (K.told disk.old).torn (K.told disk.new).torn }
     ensures same { K.lent disk.new ≡ K.lent disk.old }
 {
     disk.create(alloc, path, layout.image_size())?;
@@ -45,6 +46,7 @@ pub fn make<K: Disk>(
     ensures cause { IsErrOf result OpenError.Disk →
         Rose (K.told disk.old).faults (K.told disk.new).faults }
     ensures later { (K.told disk.old).faults ≤ (K.told disk.new).faults }
+    ensures torn { StaysTorn (K.told disk.old).torn (K.told disk.new).torn }
     ensures same { K.lent disk.new ≡ K.lent disk.old }
 {
     match make_image(alloc, disk, path, layout, unlocked) {

@@ -2,10 +2,12 @@ ghost use Rattle.std.specs.Prelude.{◌≡◌, ◌⊎◌, ◌≤◌, length, Som
 ghost use Rattle.std.specs.Result.{IsErrOf};
 ghost use Rattle.fb_frame.specs.Causes.{Rose};
 ghost use Rattle.dev_model.specs.declared.bad_image.BadImage.{BadImage};
+ghost use Rattle.dev_disk.specs.Files.{StaysTorn};
 ghost use Rattle.dev_disk.specs.Disks.{open_bytes, FilesKept};
 ghost use Rattle.dev_store.specs.Layouts.{image_size};
 ghost use Rattle.dev_store.specs.Faults.{IsHonest};
 ghost use Rattle.dev_store.specs.Opening.{IsAbsent, IsBadImage, OpensImage, LeavesImage};
+ghost use Rattle.dev_store.specs.Opening.{OthersKept};
 ghost use Rattle.dev_store.specs.Held.{IsWhole};
 ghost use Rattle.dev_store.specs.Reading.{IsImageRead, IsReadSound, IsFileOpen, IsStored, held_of};
 ghost use Rattle.dev_store.specs.Reading.{table_within};
@@ -32,6 +34,7 @@ fn find<K: Disk>(disk: &mut K, path: &str) -> Result<u64, OpenError>
     ensures good { (bad : BadImage) → IsErrOf result (OpenError.Bad bad) → ⊥ }
     ensures files { (K.told disk.new).files ≡ (K.told disk.old).files }
     ensures later { (K.told disk.old).faults ≤ (K.told disk.new).faults }
+    ensures torn { StaysTorn (K.told disk.old).torn (K.told disk.new).torn }
     ensures cause { IsErrOf result OpenError.Disk → Rose (K.told disk.old).faults (K.told disk.new).faults }
     ensures same { K.lent disk.new ≡ K.lent disk.old }
 {
@@ -60,6 +63,7 @@ fn read_path<K: Disk>(alloc: Global, disk: &mut K, path: &str) -> Result<Opened,
         IsBadImage (K.told disk.old).files path.now bad }
     ensures files { (K.told disk.new).files ≡ (K.told disk.old).files }
     ensures later { (K.told disk.old).faults ≤ (K.told disk.new).faults }
+    ensures torn { StaysTorn (K.told disk.old).torn (K.told disk.new).torn }
     ensures cause { IsErrOf result OpenError.Disk → Rose (K.told disk.old).faults (K.told disk.new).faults }
     ensures same { K.lent disk.new ≡ K.lent disk.old }
 {
@@ -91,6 +95,7 @@ pub fn open_image<K: Disk>(alloc: Global, disk: &mut K, path: &str) -> Result<Op
         (K.told disk.new).files ≡ (K.told disk.old).files }
     ensures left { OnErr result (IsHonest (K.told disk.new).torn →
         LeavesImage (K.told disk.old) (K.told disk.new) path.now) }
+    ensures others { OnErr result (OthersKept (K.told disk.old) (K.told disk.new) path.now) }
     ensures cause { IsErrOf result OpenError.Disk → Rose (K.told disk.old).faults (K.told disk.new).faults }
     ensures same { K.lent disk.new ≡ K.lent disk.old }
 {

@@ -5,6 +5,7 @@ ghost use Rattle.dev_model.specs.declared.bad_image.BadImage.{BadImage};
 ghost use Rattle.dev_store.specs.Faults.{IsHonest};
 ghost use Rattle.dev_store.specs.Held.{IsSound, IsWhole};
 ghost use Rattle.dev_store.specs.Opening.{IsAbsent, IsBadImage, OpensImage, LeavesImage};
+ghost use Rattle.dev_store.specs.Opening.{OthersKept};
 
 use crate::errors::OpenError;
 use crate::layout::Layout;
@@ -69,6 +70,7 @@ impl<K: Disk> Store<K> {
             (K.told e.0).files ≡ (K.told disk).files) }
         ensures left { IfErr result (λ e. IsHonest (K.told e.0).torn →
             LeavesImage (K.told disk) (K.told e.0) path.now) }
+        ensures others { IfErr result (λ e. OthersKept (K.told disk) (K.told e.0) path.now) }
         ensures cause { IfErr result (λ e. e.1 ≡ OpenError.Disk →
             Rose (K.told disk).faults (K.told e.0).faults) }
         ensures same_left { IfErr result (λ e. K.lent e.0 ≡ K.lent disk) }

@@ -6,16 +6,20 @@ use Rattle.dev_store.specs.Opening.{StandsAs}
 use Rattle.dev_store.specs.Held.{device_held}
 use Rattle.dev_store.specs.Reading.{IsMended, table_within}
 use Rattle.dev_store.proofs.ImageReads.{told-long}
-use Rattle.dev_store.proofs.OpenFiles.{changes-file, opens-told}
+use Rattle.dev_store.proofs.OpenFiles.{changes-file, opens-told, others-kept}
 use Rattle.dev_store.proofs.OpenSuper.{both-two}
 use Rattle.dev_store.proofs.OpenWhole.{whole, stored, stood-before, is-now}
 use Rattle.dev_store.proofs.open.open_image.Goals as goal
 
 pub returns-in_default-clause-left : goal.returns-in_default-clause-left
 returns-in_default-clause-left g c = λ honest.
-    let m = changes-file StandsAs (g.K.Disk.told c.args.disk.now) (g.K.Disk.told c.read_path.new.disk) (g.K.Disk.told c.repair_image.new.disk) c.args.path.now
-    c.read_path.ensures.files c.in-Ok.ensures.open c.repair_image.ensures.kept (c.in_default.ensures.left honest) in
-    record { left = m.file; others = m.others; later = omega (arith, c.read_path.ensures.later, c.repair_image.ensures.kept.later) }
+    (changes-file StandsAs (g.K.Disk.told c.args.disk.now) (g.K.Disk.told c.read_path.new.disk) (g.K.Disk.told c.repair_image.new.disk) c.args.path.now
+    c.read_path.ensures.files c.in-Ok.ensures.open c.repair_image.ensures.kept (c.in_default.ensures.left honest)).file
+
+pub returns-in_default-clause-others : goal.returns-in_default-clause-others
+returns-in_default-clause-others g c =
+    others-kept (g.K.Disk.told c.args.disk.now) (g.K.Disk.told c.read_path.new.disk) (g.K.Disk.told c.repair_image.new.disk) c.args.path.now
+    c.read_path.ensures.files c.read_path.ensures.later c.read_path.ensures.torn c.in-Ok.ensures.open c.repair_image.ensures.kept
 
 pub returns-clause-opens : goal.returns-clause-opens
 returns-clause-opens g c =
@@ -33,6 +37,7 @@ returns-clause-opens g c =
       open_now = m.open_now;
       others = m.others;
       later = omega (arith, c.read_path.ensures.later, c.repair_image.ensures.kept.later);
+      torn = λ a b left t. c.repair_image.ensures.kept.torn a b left (c.read_path.ensures.torn a b left t);
     }
 
 pub returns-clause-whole : goal.returns-clause-whole
