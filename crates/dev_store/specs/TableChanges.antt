@@ -1,0 +1,64 @@
+-- What the table that is written says of each partition, and which bytes a change of the table writes.
+use Rattle.std.specs.Prelude.{◌≡◌, ℕ, ◌+◌, ◌-◌, ◌%◌, List, [], ◌∷◌, length, take, drop}
+use Rattle.dev_model.specs.declared.device.Logical.{Logical}
+use Rattle.dev_model.specs.Sizes.{units_for}
+use Rattle.fb_frame.specs.Bytes.{zeros}
+use Rattle.unit_alloc.specs.Owning.{times_in}
+use Rattle.super_meta.specs.declared.table.Partition.{Partition}
+use Rattle.super_meta.specs.Contents.{Content}
+use Rattle.super_meta.specs.Held.{group_name}
+use Rattle.dev_store.specs.declared.layout.SuperPart.{SuperPart}
+use Rattle.dev_store.specs.LayoutLines.{first_unit}
+use Rattle.dev_store.specs.Layouts.{LayoutValue, parts_end}
+use Rattle.dev_store.specs.Supers.{extents_of, bytes_in, units_of, unit_bytes, units_bytes}
+use Rattle.dev_store.specs.Stand.{super_bytes}
+
+-- an entry of a table is that of a partition with these units
+pub record IsEntryOf (s : SuperPart) (c : Content) (e : Partition) (p : Logical) (list : List ℕ) : Type 0 where
+  pub name : e.name ≡ p.name
+  pub attributes : e.attributes ≡ p.attributes
+  pub group : group_name c.groups e.group ≡ p.group
+  pub long : bytes_in (extents_of c e) ≡ length p.bytes
+  pub units : units_of s c e ≡ list
+
+-- entry by entry
+abbrev pub AreEntriesOf : SuperPart → Content → List Partition → List Logical → List (List ℕ) → Type 0
+AreEntriesOf s c [] [] [] = Unit {0}
+AreEntriesOf s c (e ∷ entries) (p ∷ logical) (units ∷ lists) =
+    IsEntryOf s c e p units × AreEntriesOf s c entries logical lists
+AreEntriesOf s c entries logical lists = ⊥
+
+-- a partition of whole blocks has as many units as it needs
+pub record IsFitted (unit : ℕ) (p : Logical) (units : List ℕ) : Type 0 where
+  pub many : length units ≡ units_for unit (length p.bytes)
+  pub whole : length p.bytes % 4096 ≡ 0
+
+-- partition by partition
+abbrev pub AreFitted : ℕ → List Logical → List (List ℕ) → Type 0
+AreFitted unit [] [] = Unit {0}
+AreFitted unit (p ∷ logical) (units ∷ lists) = IsFitted unit p units × AreFitted unit logical lists
+AreFitted unit logical lists = ⊥
+
+-- the bytes of a partition are the first ones of its units
+abbrev pub LiesIn : SuperPart → List ℕ → Logical → List ℕ → Type 0
+LiesIn s super p units = p.bytes ≡ take (length p.bytes) (units_bytes s super units)
+
+-- partition by partition
+abbrev pub LieIn : SuperPart → List ℕ → List Logical → List (List ℕ) → Type 0
+LieIn s super [] [] = Unit {0}
+LieIn s super (p ∷ logical) (units ∷ lists) = LiesIn s super p units × LieIn s super logical lists
+LieIn s super logical lists = ⊥
+
+-- The bytes of units are zeros from a place on up to another one. Those before the place are as they were, and
+-- so is all of the file that lies in none of these units.
+pub record IsPadded (layout : LayoutValue) (s : SuperPart) (units : List ℕ) (from size : ℕ)
+    (old new : List ℕ) : Type 0 where
+  pub same_length : length new ≡ length old
+  pub front : take (parts_end layout.physical + first_unit s) new
+      ≡ take (parts_end layout.physical + first_unit s) old
+  pub others : (u : ℕ) → times_in u units ≡ 0 →
+      unit_bytes s (super_bytes layout s new) u ≡ unit_bytes s (super_bytes layout s old) u
+  pub kept : take from (units_bytes s (super_bytes layout s new) units)
+      ≡ take from (units_bytes s (super_bytes layout s old) units)
+  pub padded : take (size - from) (drop from (units_bytes s (super_bytes layout s new) units))
+      ≡ zeros (size - from)
