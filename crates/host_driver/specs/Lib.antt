@@ -1,3 +1,9 @@
 pub mod Jobs
+pub mod Driven
+pub mod Printing
+pub mod HeardLast
 pub mod Wires
+pub mod Driving
+pub mod Completing
+pub mod Commands
 pub mod LinkOuts

@@ -1,4 +1,14 @@
 //! Runs the plan of a product over a link, and tells what became of it.
 #![tactic(auto)]
 
+ghost use Rattle.host_driver.specs.Commands.{Decisions};
+ghost use Rattle.host_driver.specs.Completing.{Completes, RefusesExactly};
+
 pub mod drive;
+
+/// The laws of installations.
+pub fn laws()
+    ensures completes { Completes }
+    ensures refuses_exactly { RefusesExactly }
+    ensures decisions { Decisions }
+{}
