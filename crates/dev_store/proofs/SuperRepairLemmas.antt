@@ -63,7 +63,7 @@ good-geometry s b =
     (let t = b.tables in grind (arith, nat_tests)) (let w = b.whole in grind (arith, nat_tests)) (let l = b.slots in grind (arith, nat_tests)) refl
 
 -- a change lies in a wider range too, and two of them are one
-widen : (p n q m : ℕ) (old new : List ℕ) → DifferWithin p n old new → q ≤ p → p + n ≤ q + m → DifferWithin q m old new
+pub widen : (p n q m : ℕ) (old new : List ℕ) → DifferWithin p n old new → q ≤ p → p + n ≤ q + m → DifferWithin q m old new
 widen p n q m old new d low high =
     let e : p + n + (q + m - (p + n)) ≡ q + m = omega arith in
     record {
@@ -73,7 +73,7 @@ widen p n q m old new d low high =
           (sym (drop-drop (q + m - (p + n)) (p + n) new) ∙ (ap (drop (q + m - (p + n))) d.rest ∙ drop-drop (q + m - (p + n)) (p + n) old));
     }
 
-differ-then : (q m : ℕ) (a b c : List ℕ) → DifferWithin q m a b → DifferWithin q m b c → DifferWithin q m a c
+pub differ-then : (q m : ℕ) (a b c : List ℕ) → DifferWithin q m a b → DifferWithin q m b c → DifferWithin q m a c
 differ-then q m a b c d e = record { same_length = e.same_length ∙ d.same_length; front = e.front ∙ d.front; rest = e.rest ∙ d.rest }
 
 pub differ-self : (q m : ℕ) (a : List ℕ) → DifferWithin q m a a

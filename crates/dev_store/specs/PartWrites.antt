@@ -35,9 +35,9 @@ pub record IsBodyChanged (layout : LayoutValue) (old new : List ℕ) : Type 0 wh
   pub super : IsFrontKept layout layout.super_part old new
 
 -- The device of an image is changed as far as the image is told, and nothing but partitions' bytes changed.
-pub record IsPartWritten (layout : LayoutValue) (device : Option (List ℕ) → Dev) (change : Dev → Dev)
+pub record IsPartWritten (layout : LayoutValue) (dev : Option (List ℕ) → Dev) (change : Dev → Dev)
     (old new : Option (List ℕ)) : Type 0 where
-  pub device_now : device new ≡ seen new (change (device old))
+  pub device : dev new ≡ seen new (change (dev old))
   pub body : Both (IsBodyChanged layout) old new
 
 -- a block of super holds the geometry, and this table is read
