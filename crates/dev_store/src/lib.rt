@@ -31,6 +31,8 @@ pub mod store;
 mod super_read;
 mod super_repair;
 mod super_table;
+mod table_build;
+mod table_runs;
 mod units;
 mod variables_all;
 mod variables_base;
