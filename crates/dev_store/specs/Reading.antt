@@ -19,7 +19,7 @@ use Rattle.dev_store.specs.Supers.{are_good_units}
 use Rattle.dev_store.specs.Stand.{super_bytes, super_found, owned_by, owned_in, physical_at}
 use Rattle.dev_store.specs.Repairs.{SuperRepaired, IsRepaired}
 use Rattle.dev_store.specs.States.{record_of, record_in, state_copy, is_state}
-use Rattle.dev_store.specs.SuperReads.{IsSuperRead, IsMap, IsSpelled}
+use Rattle.dev_store.specs.SuperReads.{IsSuperRead, IsMap, IsSpelled, HasRooms}
 
 -- where the two state records of an image lie
 abbrev pub state_places : Twin
@@ -62,6 +62,7 @@ pub record IsSuperSound (parts : List PhysicalPart) (s : SuperPart) (w : SuperRe
   pub mapped : IsMap s w
   pub good : IsTrue (are_good_units parts s (content w.table))
   pub spelled : IsSpelled s w
+  pub rooms : HasRooms s w
 
 -- super is read exactly where there is one
 abbrev pub IsWithinSound : LayoutValue → Option SuperPart → Option SuperRead → Type 0

@@ -1,18 +1,32 @@
 -- What opening reads of super: its geometry, its table, and which units each logical partition has.
 use Rattle.std.specs.Prelude.{◌≡◌, ℕ, ◌≤◌, Bool, true, List, length, Option, Some, None, IsTrue}
-use Rattle.std.specs.Prelude.{if◌then◌else◌}
+use Rattle.std.specs.Prelude.{if◌then◌else◌, vec_capacity}
+use Rattle.super_meta.specs.declared.table.Table.{Table}
 use Rattle.super_meta.specs.Contents.{Content, content}
 use Rattle.super_meta.specs.TableText.{table_size}
 use Rattle.super_meta.specs.TableBytes.{TableBytes}
 use Rattle.dev_store.specs.declared.layout.SuperPart.{SuperPart}
 use Rattle.dev_store.specs.declared.super_read.SuperRead.{SuperRead}
 use Rattle.dev_store.specs.declared.super_table.FoundTable.{FoundTable}
+use Rattle.dev_store.specs.LayoutLines.{unit_count}
 use Rattle.dev_store.specs.Supers.{geometry_copy, holds_geometry, copy_reads, table_read}
 use Rattle.dev_store.specs.SuperBounds.{IsMapOf}
 
 -- the same of what was read
 abbrev pub IsMap : SuperPart → SuperRead → Type 0
 IsMap s r = IsMapOf s (content r.table) r.owners r.parts.items
+
+-- A table has room for as many partitions and groups as a device has at most, and for an extent of each unit.
+pub record HasRoom (units : ℕ) (t : Table) : Type 0 where
+  pub partitions : 128 ≤ vec_capacity t.partitions
+  pub groups : 64 ≤ vec_capacity t.groups
+  pub extents : units ≤ vec_capacity t.extents
+
+-- There is such room for the table, for the next one, and for the part of each partition.
+pub record HasRooms (s : SuperPart) (r : SuperRead) : Type 0 where
+  pub table : HasRoom (unit_count s) r.table
+  pub next : HasRoom (unit_count s) r.next
+  pub parts : 128 ≤ vec_capacity r.parts
 
 -- The table in its one spelling, with as many bytes as a copy has.
 pub record IsSpelled (s : SuperPart) (r : SuperRead) : Type 0 where

@@ -30,6 +30,7 @@ mod states_read;
 pub mod store;
 mod super_read;
 mod super_repair;
+mod super_rooms;
 mod super_table;
 mod table_build;
 mod table_runs;

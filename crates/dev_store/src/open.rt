@@ -87,6 +87,10 @@ pub fn open_image<K: Disk>(alloc: Global, disk: &mut K, path: &str) -> Result<Op
     ensures whole { IfOk result (λ opened. IsWhole K.told (held_of K.told disk.new opened.read)) }
     ensures stored { IfOk result (λ opened. IsStored K.told (held_of K.told disk.new opened.read)
         opened.read.layout opened.read.found.state (table_within opened.read.within)) }
+    ensures sound { IfOk result (λ opened. IsReadSound opened.read) }
+    ensures room { IfOk result (λ opened. length opened.buffer.items ≡ 126976) }
+    ensures long { IfOk result (λ opened. (K.told disk.new).open_length
+        ≡ Some (image_size opened.read.layout)) }
     ensures absent { IsErrOf result OpenError.Absent → IsAbsent (K.told disk.old).files path.now }
     ensures bad { (bad : BadImage) → IsErrOf result (OpenError.Bad bad) →
         IsBadImage (K.told disk.old).files path.now bad }

@@ -1,6 +1,5 @@
 ghost use Rattle.std.specs.Prelude.{◌≡◌, ◌⊎◌, ℕ, ◌+◌, ◌^◌, ◌<◌, ◌≤◌, length, true, false, Some, Err};
 ghost use Rattle.std.specs.Prelude.{IsTrue, IfOk, IfSome, OnErr};
-ghost use Rattle.std.specs.Prelude.{vec_capacity};
 ghost use Rattle.std.specs.Result.{IsErrOf, result_ok};
 ghost use Rattle.fb_frame.specs.Causes.{Rose};
 ghost use Rattle.dev_disk.specs.Files.{IsInside, copy};
@@ -14,24 +13,31 @@ ghost use Rattle.dev_store.specs.Laid.{is_good_super};
 ghost use Rattle.dev_store.specs.Supers.{are_good_units};
 ghost use Rattle.dev_store.specs.Stand.{table_in};
 ghost use Rattle.dev_store.specs.SuperBounds.{IsBounded};
-ghost use Rattle.dev_store.specs.SuperReads.{IsSuperRead, IsMap, IsSpelled};
+ghost use Rattle.dev_store.specs.SuperReads.{IsSuperRead, IsMap, IsSpelled, HasRooms};
 
 use crate::errors::OpenError;
 use crate::layout::{PhysicalPart, SuperPart};
+use crate::super_rooms::take_rooms;
 use crate::super_table::FoundTable;
 use dev_disk::disk::Disk;
 use dev_model::bad_image::BadImage;
 use fb_frame::memory::Memory;
 use std::alloc::Global;
+use super_meta::image::TableRoom;
 use super_meta::table::Table;
 use super_meta::writing::write_table;
 use unit_alloc::Owners;
 
 /// What opening reads of super: its table, the map of units with each partition's part in the table's
-/// order, the copy that is written where one is spoilt, and which copies were read.
+/// order, the copy that is written where one is spoilt, and which copies were read. Rooms for later tables
+/// come with it.
 #[derive(Drop)]
 pub struct SuperRead {
     pub table: Table,
+    /// Room for the table that a later call makes of it.
+    pub next: Table,
+    /// Room for the tables of a file.
+    pub room: TableRoom,
     pub owners: Owners,
     pub parts: Vec<u32>,
     /// The table's spelling and zeros after it, as many bytes as a copy has.
@@ -72,7 +78,7 @@ fn take_table(
     requires sound { IsTrue (is_sound (content found.table)) }
     requires fits { table_size (content found.table) ≤ s.now.max_size }
     ensures mapped { IfOk result (λ r. IsMap s.now r) }
-    ensures room { IfOk result (λ r. 128 ≤ vec_capacity r.parts) }
+    ensures rooms { IfOk result (λ r. HasRooms s.now r) }
     ensures good { IfOk result (λ r. IsTrue (are_good_units parts.now s.now (content r.table))) }
     ensures spelled { IfOk result (λ r. IsSpelled s.now r) }
     ensures table { IfOk result (λ r. content r.table ≡ content found.table) }
@@ -82,7 +88,11 @@ fn take_table(
     ensures bad { IsErrOf result (OpenError.Bad BadUnits) →
         are_good_units parts.now s.now (content found.table) ≡ false }
 {
-    let FoundTable { table, backup } = found;
+    let FoundTable { mut table, backup } = found;
+    let (next, room) = match take_rooms(alloc, s, &mut table) {
+        Ok(rooms) => rooms,
+        Err(Memory) => return Err(OpenError::Memory),
+    };
     if !s.are_good_parts(parts, &table) {
         return Err(OpenError::Bad(BadImage::BadUnits));
     }
@@ -99,6 +109,8 @@ fn take_table(
     };
     Ok(SuperRead {
         table,
+        next,
+        room,
         owners,
         parts: numbers,
         copy,
@@ -125,7 +137,7 @@ pub(crate) fn read_super<K: Disk>(
     ensures read { IfOk result (λ r. IfSome (open_bytes (K.told disk.old)) (λ file.
         IsSuperRead s.now (copy file at s.now.size) r)) }
     ensures mapped { IfOk result (λ r. IsMap s.now r) }
-    ensures room { IfOk result (λ r. 128 ≤ vec_capacity r.parts) }
+    ensures rooms { IfOk result (λ r. HasRooms s.now r) }
     ensures good { IfOk result (λ r. IsTrue (are_good_units parts.now s.now (content r.table))) }
     ensures spelled { IfOk result (λ r. IsSpelled s.now r) }
     ensures bad { (bad : BadImage) → IsErrOf result (OpenError.Bad bad) →
