@@ -4,7 +4,9 @@
 ghost use Rattle.host_driver.specs.Commands.{Decisions};
 ghost use Rattle.host_driver.specs.Completing.{Completes, RefusesExactly};
 
+pub mod before;
 pub mod drive;
+pub mod link_out;
 
 /// The laws of installations.
 pub fn laws()
