@@ -1,5 +1,5 @@
 -- One command of a told device, and the step that it decides.
-use Rattle.std.proofs.Common.{◌≡◌, ◌⊎◌, inl, inr, ℕ, Bool, true, false, Option, Some, None, List, [], ◌∷◌, ◌++◌, length, refl, sym, ap, ◌∙◌, subst, arith, length-append}
+use Rattle.std.proofs.Common.{◌≡◌, ◌⊎◌, inl, inr, ℕ, Bool, true, Option, Some, None, List, [], ◌∷◌, ◌++◌, length, refl, sym, ap, ◌∙◌, subst, arith, length-append}
 use Rattle.std.specs.Prelude.{is_none, unwrap_or}
 use Rattle.fb_frame.specs.declared.slot.Slot.{Slot}
 use Rattle.fb_frame.specs.declared.tables.Tables.{Tables}

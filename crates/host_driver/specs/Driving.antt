@@ -6,7 +6,6 @@ use Rattle.fb_frame.specs.Causes.{Rose}
 use Rattle.fb_frame.specs.Sinks.{Grew}
 use Rattle.dev_model.specs.declared.device.Dev.{Dev}
 use Rattle.dev_model.specs.declared.device.Mode.TheVariants.{Halted}
-use Rattle.dev_model.specs.Partitions.{is_fastboot}
 use Rattle.product_info.specs.declared.requirement.Requirement.{Requirement}
 use Rattle.wire_told.specs.Answered.{Sound}
 use Rattle.wire_told.specs.Ports.{Kept}

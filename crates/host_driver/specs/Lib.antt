@@ -7,3 +7,4 @@ pub mod Driving
 pub mod Completing
 pub mod Commands
 pub mod LinkOuts
+pub mod Logs
