@@ -46,7 +46,7 @@ drop-of n m a b h e =
 abbrev as-part : PhysicalPart → List ℕ → Physical
 as-part p bytes = record { name = p.name; bytes = bytes }
 
-physical-front : (place : ℕ) (parts : List PhysicalPart) (a b : List ℕ) →
+pub physical-front : (place : ℕ) (parts : List PhysicalPart) (a b : List ℕ) →
     take (place + sum_by (λ p. p.size) parts) a ≡ take (place + sum_by (λ p. p.size) parts) b → physical_at place parts a ≡ physical_at place parts b
 physical-front place [] a b e = refl
 physical-front place (p ∷ parts) a b e =
@@ -57,7 +57,7 @@ physical-front place (p ∷ parts) a b e =
     let rest = physical-front (place + p.size) parts a b (subst (λ n. take n a ≡ take n b) same e) in
     ap (λ bytes. as-part p bytes ∷ physical_at (place + p.size) parts a) here ∙ ap (λ more. as-part p (take p.size (drop place b)) ∷ more) rest
 
-physical-rest : (place : ℕ) (parts : List PhysicalPart) (a b : List ℕ) → drop place a ≡ drop place b → physical_at place parts a ≡ physical_at place parts b
+pub physical-rest : (place : ℕ) (parts : List PhysicalPart) (a b : List ℕ) → drop place a ≡ drop place b → physical_at place parts a ≡ physical_at place parts b
 physical-rest place [] a b e = refl
 physical-rest place (p ∷ parts) a b e =
     let rest = physical-rest (place + p.size) parts a b (drop-of place (place + p.size) a b (omega arith) e) in

@@ -21,7 +21,7 @@ use Rattle.dev_store.proofs.ValidStands.{super-read}
 abbrev listed : (Partition → List ℕ) → List ℕ → List Partition → List ℕ
 listed f name ps = unwrap_or (option_map f (find (λ p. bytes_eq p.name name) ps)) []
 
-found-times : (f : Partition → List ℕ) (name : List ℕ) (u : ℕ) (ps : List Partition) → times_in u (listed f name ps) ≤ times_in u (flat_map f ps)
+pub found-times : (f : Partition → List ℕ) (name : List ℕ) (u : ℕ) (ps : List Partition) → times_in u (listed f name ps) ≤ times_in u (flat_map f ps)
 found-times f name u [] = omega (arith, times_in-nil u)
 found-times f name u (p ∷ ps) = by (bytes_eq p.name name) (found-times f name u ps) where
   by : (b : Bool) → times_in u (listed f name ps) ≤ times_in u (flat_map f ps) → times_in u (unwrap_or (option_map f (if b then Some p else find (λ p. bytes_eq p.name name) ps)) []) ≤ times_in u (f p ++ flat_map f ps)

@@ -28,7 +28,7 @@ use Rattle.dev_store.proofs.WrittenLemmas.{written-none}
 use Rattle.dev_store.proofs.SuperRepairLemmas.{widen, differ-then, differ-self}
 
 -- Lists of which the elements of one name are changed.
-module _ {X : Type 0} (nm : X → List ℕ) (f g : X → X) (name : List ℕ) (keeps : (x : X) → bytes_eq (nm x) name ≡ false → f x ≡ x) where
+module _ {X : Type 0} (nm : X → List ℕ) (f : X → X) (name : List ℕ) (keeps : (x : X) → bytes_eq (nm x) name ≡ false → f x ≡ x) where
   -- none has the name
   pub unnamed : (xs : List X) → among name (map nm xs) ≡ false → map f xs ≡ xs
   unnamed [] h = refl
@@ -68,7 +68,7 @@ alike-found nm f g name x keeps holds e (y ∷ ys) d h =
       let same : x ≡ y = sym cc in
       let free = rest-unnamed (nm y) name (map nm ys) d k in
       let one : f y ≡ g y = subst (λ z. f z ≡ g z) same e in
-      let rest = unnamed nm f f name keeps ys free ∙ sym (unnamed nm g g name holds ys free) in
+      let rest = unnamed nm f name keeps ys free ∙ sym (unnamed nm g name holds ys free) in
       λ i. one i ∷ rest i
   by false k more m =
       let one : f y ≡ g y = keeps y k ∙ sym (holds y k) in
@@ -114,12 +114,12 @@ bytes-alike name f g dev d h = by (find (λ p. bytes_eq p.name name) dev.physica
   same a b = λ i. record dev { physical = a i; logical = b i }
 
   no-physical : among name ps ≡ false → map (physical_changed name f) dev.physical ≡ map (physical_changed name g) dev.physical
-  no-physical e = unnamed (λ p. p.name) (physical_changed name f) (physical_changed name f) name (physical-keeps name f) dev.physical e
-      ∙ sym (unnamed (λ p. p.name) (physical_changed name g) (physical_changed name g) name (physical-keeps name g) dev.physical e)
+  no-physical e = unnamed (λ p. p.name) (physical_changed name f) name (physical-keeps name f) dev.physical e
+      ∙ sym (unnamed (λ p. p.name) (physical_changed name g) name (physical-keeps name g) dev.physical e)
 
   no-logical : among name ls ≡ false → map (logical_changed name f) dev.logical ≡ map (logical_changed name g) dev.logical
-  no-logical e = unnamed (λ p. p.name) (logical_changed name f) (logical_changed name f) name (logical-keeps name f) dev.logical e
-      ∙ sym (unnamed (λ p. p.name) (logical_changed name g) (logical_changed name g) name (logical-keeps name g) dev.logical e)
+  no-logical e = unnamed (λ p. p.name) (logical_changed name f) name (logical-keeps name f) dev.logical e
+      ∙ sym (unnamed (λ p. p.name) (logical_changed name g) name (logical-keeps name g) dev.logical e)
 
   by : (a : Option Physical) (b : Option Logical) → find (λ p. bytes_eq p.name name) dev.physical ≡ a → find (λ p. bytes_eq p.name name) dev.logical ≡ b → f (part_bytes name dev) ≡ g (part_bytes name dev) →
       with_bytes name f dev ≡ with_bytes name g dev
