@@ -35,7 +35,7 @@ place-alike s c super name [] = refl
 place-alike s c super name (p ∷ ps) = ap (λ n. cond (not (bytes_eq p.name name)) (1 + n) 0) (place-alike s c super name ps)
 
 -- past the end there is nothing, and so it is where nothing was found
-place-same : (parts : List ℕ) (n q : ℕ) → length parts ≡ n → slice_get parts (unwrap_or (cond (nat_lt q n) (Some q) None) (length parts)) ≡ slice_get parts q
+pub place-same : (parts : List ℕ) (n q : ℕ) → length parts ≡ n → slice_get parts (unwrap_or (cond (nat_lt q n) (Some q) None) (length parts)) ≡ slice_get parts q
 place-same parts n q long = by (nat_lt q n) refl
   where
     by : (b : Bool) → nat_lt q n ≡ b → slice_get parts (unwrap_or (cond b (Some q) None) (length parts)) ≡ slice_get parts q
@@ -44,7 +44,7 @@ place-same parts n q long = by (nat_lt q n) refl
         let past : n ≤ q = ltb-false q n e in
         slice_get_past parts (length parts) (omega arith) ∙ sym (slice_get_past parts q (omega arith))
 
-units-or : (o : Owning) (part : Option ℕ) → units_by (Some o) part ≡ unwrap_or (option_map (owning.units_of o) part) []
+pub units-or : (o : Owning) (part : Option ℕ) → units_by (Some o) part ≡ unwrap_or (option_map (owning.units_of o) part) []
 units-or o None = refl
 units-or o (Some part) = refl
 
