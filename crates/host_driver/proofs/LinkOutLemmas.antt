@@ -17,7 +17,7 @@ use Rattle.fb_link.proofs.TypedLemmas.{Sound-sending, Sound-hung}
 use Rattle.sparse_image.specs.Outside.{Grew, GrewInPart, HasRoom, Fell}
 use Rattle.sparse_image.proofs.WriteLemmas.{grew-none, grew-then, fell-none, fell-then, room-left}
 use Rattle.host_driver.specs.Wires.{full_frames, last_frame, data_wire}
-use Rattle.host_driver.specs.LinkOuts.{IsTaken, IsSent, SendsFrames, IsSending, FailsAmid, HasFailed, data_by, SendsAll}
+use Rattle.host_driver.specs.LinkOuts.{IsTaken, IsSent, SendsFrames, IsSending, HasGivenUp, HasFailed, data_by, SendsAll}
 
 -- Frames of 65,536 bytes, and one more.
 frames-append : (k : ℕ) (x r : List ℕ) → length x ≡ 65536 * k → full_frames k (x ++ r) ≡ full_frames k x
@@ -156,16 +156,18 @@ Sends-frames a b left s = record {
 
 -- a call failed amid the data
 pub Failed-amid : (a b c : PortTold) (left : ℕ) (p : List ℕ) → IsSending a b left → SendFails b c (frame p) → HungUp b.peer c.peer → Sound c.peer → HasFailed a c
-unfolding IsSending HasFailed
-Failed-amid a b c left p s f h v = record {
-  down = f.down;
-  left = kept-hung (IsTaken s.bytes (full_frames s.frames s.bytes)) (λ w u t. t.device) a.peer b.peer c.peer s.sent.took h;
-  sound = v;
-  kept = Kept-trans a b c s.sent.kept f.kept;
-  heard = f.heard ∙ s.sent.heard;
-  ends = f.ends ∙ s.sent.ends;
-  rose = omega (arith, s.sent.kept.later, f.rose);
-}
+unfolding IsSending HasFailed HasGivenUp
+Failed-amid a b c left p s f h v = (
+  record {
+    down = f.down;
+    left = kept-hung (IsTaken s.bytes (full_frames s.frames s.bytes)) (λ w u t. t.device) a.peer b.peer c.peer s.sent.took h;
+    sound = v;
+    kept = Kept-trans a b c s.sent.kept f.kept;
+    heard = f.heard ∙ s.sent.heard;
+    ends = f.ends ∙ s.sent.ends;
+  },
+  omega (arith, s.sent.kept.later, f.rose),
+)
 
 -- nothing was sent yet
 none-taken : (left : ℕ) (w : Wire) → IsSendingWire left w → IsTaken [] [] w w
@@ -200,49 +202,55 @@ Sending-due a b left s = s.sending
 pub ruleset frames = (Sending-more, Data-more, Failed-amid, Sending-up, Sending-due)
 
 -- the port of an out whose connection is given up
-pub Sound-due : (a b : PortTold) (left : ℕ) → IsSending a b left → Sound b.peer
-unfolding IsSending
-Sound-due a b left s = Sound-sending left b.peer s.sending
-
-pub Sound-failed : (a b : PortTold) → HasFailed a b → Sound b.peer
+pub GivenUp-failed : (a b : PortTold) → HasFailed a b → HasGivenUp a b
 unfolding HasFailed
-Sound-failed a b f = f.sound
+GivenUp-failed a b f = f.0
 
 pub Down-failed : (a b : PortTold) → HasFailed a b → IsFalse b.up
-unfolding HasFailed
-Down-failed a b f = f.down
+unfolding HasFailed HasGivenUp
+Down-failed a b f = f.0.down
 
-pub Sound-held : (up : Bool) (a b : PortTold) (left : ℕ) → (up ≡ true → IsSending a b left) → (up ≡ false → HasFailed a b) → Sound b.peer
-Sound-held true a b left s f = Sound-due a b left (s refl)
-Sound-held false a b left s f = Sound-failed a b (f refl)
+pub Sound-given : (a b : PortTold) → HasGivenUp a b → Sound b.peer
+unfolding HasGivenUp
+Sound-given a b f = f.sound
 
-pub Sound-dropped : (a b : PortTold) → Sound a.peer → Drops a b → Sound b.peer
-Sound-dropped a b s d = Sound-hung a.peer b.peer s d.left
+hung-twice : (a b c : Option Peer) → HungUp a b → HungUp b c → HungUp a c
+hung-twice None None c h g = g
+hung-twice None (Some b) c h g = absurd h
+hung-twice (Some a) None c h g = absurd h
+hung-twice (Some a) (Some (Joined v)) c h g = absurd h
+hung-twice (Some a) (Some (Apart dev)) None h g = absurd g
+hung-twice (Some a) (Some (Apart dev)) (Some (Joined u)) h g = absurd g
+hung-twice (Some a) (Some (Apart dev)) (Some (Apart e)) h g = g ∙ h
 
-stays-taken : (a b c : Option Peer) → HungUp a b → HungUp b c → HungUp a c
-stays-taken None None c h g = g
-stays-taken None (Some b) c h g = absurd h
-stays-taken (Some a) None c h g = absurd h
-stays-taken (Some a) (Some (Joined v)) c h g = absurd h
-stays-taken (Some a) (Some (Apart dev)) None h g = absurd g
-stays-taken (Some a) (Some (Apart dev)) (Some (Joined u)) h g = absurd g
-stays-taken (Some a) (Some (Apart dev)) (Some (Apart e)) h g = g ∙ h
-
-pub Failed-dropped : (a b c : PortTold) → HasFailed a b → Drops b c → c.faults ≡ b.faults → HasFailed a c
-unfolding HasFailed
-Failed-dropped a b c f d e = record {
+GivenUp-sending : (a b c : PortTold) (left : ℕ) → IsSending a b left → Drops b c → HasGivenUp a c
+unfolding IsSending HasGivenUp
+GivenUp-sending a b c left s d = record {
   down = d.down;
-  left = stays-taken a.peer b.peer c.peer f.left d.left;
-  sound = Sound-dropped b c f.sound d;
-  kept = Kept-trans a b c f.kept d.kept;
-  heard = d.heard ∙ f.heard;
-  ends = d.ends ∙ f.ends;
-  rose = omega (arith, e, f.rose);
+  left = kept-hung (IsTaken s.bytes (full_frames s.frames s.bytes)) (λ w u t. t.device) a.peer b.peer c.peer s.sent.took d.left;
+  sound = Sound-hung b.peer c.peer (Sound-sending left b.peer s.sending) d.left;
+  kept = Kept-trans a b c s.sent.kept d.kept;
+  heard = d.heard ∙ s.sent.heard;
+  ends = d.ends ∙ s.sent.ends;
 }
 
-pub ruleset ends = (Sends-rest, Sends-frames, Failed-amid, Sending-up, Sending-due, Sound-failed, Down-failed)
+GivenUp-again : (a b c : PortTold) → HasFailed a b → Drops b c → HasGivenUp a c
+unfolding HasFailed HasGivenUp
+GivenUp-again a b c f d = record {
+  down = d.down;
+  left = hung-twice a.peer b.peer c.peer f.0.left d.left;
+  sound = Sound-hung b.peer c.peer f.0.sound d.left;
+  kept = Kept-trans a b c f.0.kept d.kept;
+  heard = d.heard ∙ f.0.heard;
+  ends = d.ends ∙ f.0.ends;
+}
 
-pub ruleset abandons = (Sound-held, Sound-dropped, Failed-dropped)
+pub GivenUp-dropped : (up : Bool) (a b c : PortTold) (left : ℕ) → (up ≡ true → IsSending a b left) → (up ≡ false → HasFailed a b) → Drops b c → HasGivenUp a c
+GivenUp-dropped true a b c left s f d = GivenUp-sending a b c left (s refl) d
+GivenUp-dropped false a b c left s f d = GivenUp-again a b c (f refl) d
+
+pub ruleset ends = (Sends-rest, Sends-frames, Failed-amid, Sending-up, Sending-due, GivenUp-failed, Down-failed)
+
 
 -- more bytes are held
 pub put-more : (a b : Option Peer) (buffer x : List ℕ) → Grew (data_by a b buffer) (data_by a b (buffer ++ x)) x

@@ -8,3 +8,4 @@ pub mod Completing
 pub mod Commands
 pub mod LinkOuts
 pub mod Logs
+pub mod PutPieces

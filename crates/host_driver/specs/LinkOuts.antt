@@ -46,18 +46,21 @@ pub record SendsFrames (old new : PortTold) (left : ℕ) : Type 0 where
 unfoldable pub IsSending : PortTold → PortTold → ℕ → Type 0
 IsSending old new left = SendsFrames old new left
 
--- A call failed amid the data: the connection is down, and the device as it was.
-pub record FailsAmid (old new : PortTold) : Type 0 where
+-- The connection was given up amid the data: nothing was heard, and the device is as it was.
+pub record GivesUp (old new : PortTold) : Type 0 where
   pub down : IsFalse new.up
   pub left : HungUp old.peer new.peer
   pub sound : Sound new.peer
   pub kept : Kept old new
   pub heard : new.heard ≡ old.heard
   pub ends : new.ends ≡ old.ends
-  pub rose : Rose old.faults new.faults
 
+unfoldable pub HasGivenUp : PortTold → PortTold → Type 0
+HasGivenUp old new = GivesUp old new
+
+-- and a call failed
 unfoldable pub HasFailed : PortTold → PortTold → Type 0
-HasFailed old new = FailsAmid old new
+HasFailed old new = HasGivenUp old new × Rose old.faults new.faults
 
 -- the data that came since, and then the bytes that aren't sent yet, where a connection is told
 abbrev pub data_by : Option Peer → Option Peer → List ℕ → Option (List ℕ)

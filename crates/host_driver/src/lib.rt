@@ -8,6 +8,7 @@ pub mod before;
 pub mod drive;
 pub mod link_out;
 pub mod log_port;
+pub mod send_piece;
 
 /// The laws of installations.
 pub fn laws()

@@ -2,9 +2,10 @@ ghost use Rattle.std.specs.Prelude.{◌≡◌, ◌-◌, ◌<◌, ◌≤◌, [], 
 ghost use Rattle.std.specs.Prelude.{OnErr, IsTrue, None};
 ghost use Rattle.fb_frame.specs.Causes.{HasCause, Rose};
 ghost use Rattle.wire_told.specs.Ports.{Drops};
-ghost use Rattle.wire_told.specs.Answered.{Downloading, Sound};
+ghost use Rattle.wire_told.specs.Answered.{Downloading};
 ghost use Rattle.sparse_image.specs.Outside.{Grew, HasRoom, Fell};
-ghost use Rattle.host_driver.specs.LinkOuts.{IsSending, HasFailed, SendsAll, IsFull, data_by, put_by, room_by};
+ghost use Rattle.host_driver.specs.LinkOuts.{IsSending, HasFailed, HasGivenUp, SendsAll, IsFull};
+ghost use Rattle.host_driver.specs.LinkOuts.{data_by, put_by, room_by};
 
 use crate::before::Before;
 use fb_link::download::send_chunk;
@@ -253,13 +254,11 @@ impl<P: Port, F: Before> LinkOut<P, F> {
     }
 
     /// Gives up the connection, and sends nothing.
-    #[tactic(auto, using(crate::proofs::LinkOutLemmas::abandons))]
     pub fn abandon(self) -> Lost<P>
         ensures drops { Drops (P.told self.port) (P.told result) }
-        ensures sound { Sound (P.told result).peer }
+        ensures given_up { HasGivenUp F.before (P.told result) }
         ensures faults { (P.told result).faults ≡ (P.told self.port).faults }
         ensures same { P.lent result ≡ P.lent self.port }
-        ensures failed { self.up ≡ false → HasFailed F.before (P.told result) }
     {
         let LinkOut { mut port, .. } = self;
         port.hang_up();

@@ -1,11 +1,13 @@
 use Rattle.std.proofs.Common.{subst, sym}
-use Rattle.wire_told.specs.Answered.{Sound}
-use Rattle.host_driver.proofs.LinkOutLemmas.{Sound-held, Sound-dropped}
+use Rattle.host_driver.specs.LinkOuts.{HasGivenUp}
+use Rattle.host_driver.proofs.LinkOutLemmas.{GivenUp-dropped}
 use Rattle.host_driver.proofs.link_out.LinkOut.abandon.Goals as goal
 
-pub returns-clause-sound : goal.returns-clause-sound
-returns-clause-sound g c =
+pub returns-clause-given_up : goal.returns-clause-given_up
+returns-clause-given_up g c =
     let told = g.P.Port.told in
+    let first = g.F.Before.before in
     let held = c.self.invariant.0 in
-    let before = Sound-held c.self.inside.up g.F.Before.before (told c.self.inside.port) c.self.inside.left held.sending held.failed in
-    subst (λ p. Sound (told p).peer) (sym c.new.ensures) (Sound-dropped _ _ before c.hang_up.ensures.drops)
+    let out = c.self.inside in
+    subst (λ p. HasGivenUp first (told p)) (sym c.new.ensures)
+    (GivenUp-dropped out.up first (told out.port) (told c.hang_up.new.self) out.left held.sending held.failed c.hang_up.ensures.drops)
