@@ -1,6 +1,7 @@
 -- A store over an image that was read and repaired is whole.
-use Rattle.std.proofs.Common.{◌≡◌, ◌∙◌, refl, ap, sym, ℕ, Bool, true, false, List, length, Option, Some, None, Ok}
+use Rattle.std.proofs.Common.{arith, ◌≡◌, ◌∙◌, refl, ap, sym, subst, ℕ, Bool, true, false, List, ◌++◌, take, length, Option, Some, None, Ok}
 use Rattle.std.proofs.lemmas.List.{length-replicate}
+use Rattle.std.proofs.Math.Seq.{take-append_seam}
 use Rattle.std.specs.Prelude.{IsTrue, IfSome}
 use Rattle.fb_frame.specs.Bytes.{zeros}
 use Rattle.dev_model.specs.Validity.{IsValid}
@@ -16,12 +17,17 @@ use Rattle.dev_store.specs.declared.super_read.SuperRead.{SuperRead}
 use Rattle.dev_store.specs.declared.image_read.ImageRead.{ImageRead}
 use Rattle.dev_store.specs.Layouts.{LayoutValue, image_size}
 use Rattle.dev_store.specs.Laid.{IsLaid}
-use Rattle.dev_store.specs.States.{is_state, start_mode}
-use Rattle.dev_store.specs.Stand.{stand, Starts, Settled, owned, physical_at, device_with}
+use Rattle.std.specs.Option.{option_or}
+use Rattle.dev_store.specs.Layouts.{layout_in}
+use Rattle.dev_store.specs.States.{is_state, start_mode, record_in, record_of, state_copy}
+use Rattle.dev_store.specs.Supers.{table_read, copy_reads}
+use Rattle.dev_store.specs.Repairs.{SuperRepaired}
+use Rattle.dev_store.specs.PartWrites.{IsImageOf, IsTableOf}
+use Rattle.dev_store.specs.Stand.{stand, Starts, Settled, owned, physical_at, device_with, super_bytes}
 use Rattle.dev_store.specs.Held.{device_held, file_or_zeros, super_by, Holds, IsSettled, OwnsAsTold, IsWhole, IsKept, IsTabled}
-use Rattle.dev_store.specs.Reading.{IsImageRead, IsMended, IsReadSound, IsWithinSound, held_of, table_within, owned_within, IsStored}
+use Rattle.dev_store.specs.Reading.{IsImageRead, IsMended, IsReadSound, IsWithinSound, IsWithinRead, held_of, table_within, owned_within, IsStored}
 use Rattle.dev_store.proofs.ValidStands.{super_makes_valid, plain_makes_valid}
-use Rattle.dev_store.proofs.OpenLemmas.{opened}
+use Rattle.dev_store.proofs.OpenLemmas.{opened, geometry-either, state-recorded}
 use Rattle.dev_store.proofs.OpenZeros.{held-zeroed}
 use Rattle.dev_store.proofs.OpenOwns.{units-within, maps}
 
@@ -118,8 +124,64 @@ is-now r (Some file) (Some now) sound h m long =
     let o = opened r file now sound h m in
     record { stands = o.stands; settled = o.settled; owns = o.owns; long = long }
 
-pub stored : {K : Type 0} (told : K → DiskTold) (disk : K) (r : ImageRead) → IsReadSound r → IfSome (open_bytes (told disk)) (IsNow r) →
-    IsStored told (held_of told disk r) r.layout r.found.state (table_within r.within)
-stored told disk r sound h =
+-- the table is read of a repaired super
+some-is : {X : Type 0} (x y : X) (o : Option X) → o ≡ Some x → o ≡ Some y → x ≡ y
+some-is x y None h k = absurd cc
+some-is x y (Some z) h k = cc
+
+first-is : {X : Type 0} (a b : Option X) (x : X) → a ≡ Some x → option_or a b ≡ Some x
+first-is a b x h = subst (λ o. option_or o b ≡ Some x) (sym h) refl
+
+has-table : (layout : LayoutValue) (part : Option SuperPart) (within : Option SuperRead) (file now : List ℕ) → IsWithinSound layout part within → IsWithinRead layout part within file →
+    SuperRepaired layout part file now → IsTableOf layout part (table_within within) now
+has-table layout None None file now sound h m = tt
+has-table layout None (Some w) file now sound h m = absurd sound
+has-table layout (Some s) None file now sound h m = absurd sound
+has-table layout (Some s) (Some w) file now sound h m =
+    let super = super_bytes layout s now in
+    let same : m.table ≡ content w.table = some-is m.table (content w.table) (table_read s (super_bytes layout s file)) m.tabled h.read in
+    record {
+      geometry = geometry-either s super false m.first;
+      read = first-is (copy_reads s 0 super) (copy_reads s s.slots super) (content w.table) (m.copies 0 (omega (arith, m.some)) ∙ ap Some same);
+    }
+
+-- the repaired image has what was read
+image-of-file : (r : ImageRead) (file now : List ℕ) → IsReadSound r → IsImageRead r file → IsMended r file now → IsImageOf r.layout r.found.state (table_within r.within) now
+image-of-file r file now sound h m =
+    let layout = r.layout in
+    let p = m.repaired in
+    let same : p.layout ≡ layout = some-is p.layout layout (layout_in file) p.laid h.front.laid in
+    let read : p.state ≡ r.found.state =
+    ap (λ x. x.1) (some-is {X = ℕ × State} (p.version, p.state) (r.found.version, r.found.state) (record_in layout.slots file) (subst (λ l. record_in l.slots file ≡ Some (p.version, p.state)) same p.recorded)
+    (state-recorded layout.slots r.found file h.state)) in
+    record {
+      laid = p.same_layout ∙ ap Some same;
+      version = 2;
+      recorded = subst (λ l. record_in l.slots now ≡ Some (2, r.found.state)) same
+          (first-is (record_of p.layout.slots (state_copy false now)) (record_of p.layout.slots (state_copy true now)) (2, r.found.state) (p.first ∙ ap (λ s. Some (2, s)) read));
+      tabled = has-table layout layout.super_part r.within file now sound.super h.super m.super;
+    }
+
+pub image-of : (r : ImageRead) (o p : Option (List ℕ)) → IsReadSound r → IfSome o (IsImageRead r) → Both (IsMended r) o p → IfSome p (IsImageOf r.layout r.found.state (table_within r.within))
+image-of r o None sound h m = tt
+image-of r None (Some now) sound h m = absurd m
+image-of r (Some file) (Some now) sound h m = image-of-file r file now sound h m
+
+-- a vector that was lent as a slice is as long as it was
+pub lent-long : (n count : ℕ) (now rest : List ℕ) → length now ≡ n → count ≡ n → length (take count (now ++ rest)) ≡ n
+lent-long n count now rest h e = subst (λ k. length (take k (now ++ rest)) ≡ n) (h ∙ sym e) (ap length (take-append_seam now rest) ∙ h)
+
+pub stored : {K : Type 0} (told : K → DiskTold) (disk : K) (r : ImageRead) (buffer : List ℕ) → IsReadSound r → IfSome (open_bytes (told disk)) (IsNow r) →
+    IfSome (open_bytes (told disk)) (IsImageOf r.layout r.found.state (table_within r.within)) → (told disk).open_length ≡ Some (image_size r.layout) → length buffer ≡ 126976 →
+    IsStored told (held_of told disk r) r.layout r.found.state r.within buffer
+stored told disk r buffer sound h image length-open room =
     let w = whole told disk r sound h in
-    record { sound = w.sound; whole = λ _. w; kept = image-kept r (open_bytes (told disk)) sound h }
+    record {
+      valid = w.sound.valid;
+      opened = length-open;
+      kept = image-kept r (open_bytes (told disk)) sound h;
+      whole = λ _. w;
+      super = λ _. sound.super;
+      read = λ _. image;
+      room = room;
+    }

@@ -1,7 +1,8 @@
 -- What opening reads of a device image, and what its repairs make of it or leave.
 use Rattle.std.specs.Prelude.{◌≡◌, ℕ, true, false, not, List, [], length, Option, Some, None}
-use Rattle.std.specs.Prelude.{take, IsSome, option_map, if◌then◌else◌, IsTrue, nat_le, ◌==◌}
+use Rattle.std.specs.Prelude.{take, IsSome, IfSome, option_map, if◌then◌else◌, IsTrue, nat_le, ◌==◌}
 use Rattle.super_meta.specs.Contents.{Content, content}
+use Rattle.dev_model.specs.Validity.{IsValid}
 use Rattle.dev_disk.specs.declared.twin.Twin.{Twin}
 use Rattle.dev_disk.specs.Files.{Files}
 use Rattle.dev_disk.specs.Calls.{IsOpen}
@@ -14,12 +15,13 @@ use Rattle.dev_store.specs.declared.super_read.SuperRead.{SuperRead}
 use Rattle.dev_store.specs.declared.image_read.ImageRead.{ImageRead}
 use Rattle.dev_store.specs.Laid.{IsLaid}
 use Rattle.dev_store.specs.Layouts.{LayoutValue, layout_in, image_size, parts_end}
-use Rattle.dev_store.specs.Held.{Held, device_held, image_of, IsSound, IsWhole, IsKept}
+use Rattle.dev_store.specs.Held.{Held, device_held, image_of, IsWhole, IsKept}
 use Rattle.dev_store.specs.Supers.{are_good_units}
 use Rattle.dev_store.specs.Stand.{super_bytes, super_found, owned_by, owned_in, physical_at}
 use Rattle.dev_store.specs.Repairs.{SuperRepaired, IsRepaired}
 use Rattle.dev_store.specs.States.{record_of, record_in, state_copy, is_state}
 use Rattle.dev_store.specs.SuperReads.{IsSuperRead, IsMap, IsSpelled, HasRooms}
+use Rattle.dev_store.specs.PartWrites.{IsImageOf}
 
 -- where the two state records of an image lie
 abbrev pub state_places : Twin
@@ -142,9 +144,14 @@ held_of told disk r = record {
   broken = false;
 }
 
--- what holds of a store at all times
+-- What holds of a store at all times. A broken one has a device that there can be, field by field as any
+-- store: what its image stands for is said by the call that broke it.
 pub record IsStored {K : Type 0} (told : K → DiskTold) (held : Held K) (layout : LayoutValue) (state : State)
-    (table : Option Content) : Type 0 where
-  pub sound : IsSound told held
+    (within : Option SuperRead) (buffer : List ℕ) : Type 0 where
+  pub valid : IsValid held.device
+  pub opened : (told held.disk).open_length ≡ Some (image_size layout)
+  pub kept : IsKept layout state (table_within within) (image_of told held)
   pub whole : held.broken ≡ false → IsWhole told held
-  pub kept : IsKept layout state table (image_of told held)
+  pub super : held.broken ≡ false → IsWithinSound layout layout.super_part within
+  pub read : held.broken ≡ false → IfSome (image_of told held) (IsImageOf layout state (table_within within))
+  pub room : length buffer ≡ 126976

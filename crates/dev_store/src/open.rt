@@ -10,7 +10,6 @@ ghost use Rattle.dev_store.specs.Opening.{IsAbsent, IsBadImage, OpensImage, Leav
 ghost use Rattle.dev_store.specs.Opening.{OthersKept};
 ghost use Rattle.dev_store.specs.Held.{IsWhole};
 ghost use Rattle.dev_store.specs.Reading.{IsImageRead, IsReadSound, IsFileOpen, IsStored, held_of};
-ghost use Rattle.dev_store.specs.Reading.{table_within};
 
 use crate::errors::OpenError;
 use crate::image_read::{ImageRead, read_image};
@@ -86,7 +85,7 @@ pub fn open_image<K: Disk>(alloc: Global, disk: &mut K, path: &str) -> Result<Op
         path.now (held_of K.told disk.new opened.read).device) }
     ensures whole { IfOk result (λ opened. IsWhole K.told (held_of K.told disk.new opened.read)) }
     ensures stored { IfOk result (λ opened. IsStored K.told (held_of K.told disk.new opened.read)
-        opened.read.layout opened.read.found.state (table_within opened.read.within)) }
+        opened.read.layout opened.read.found.state opened.read.within opened.buffer.items) }
     ensures sound { IfOk result (λ opened. IsReadSound opened.read) }
     ensures room { IfOk result (λ opened. length opened.buffer.items ≡ 126976) }
     ensures long { IfOk result (λ opened. (K.told disk.new).open_length

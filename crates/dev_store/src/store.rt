@@ -1,9 +1,9 @@
-ghost use Rattle.std.specs.Prelude.{◌≡◌, ◌⊎◌, IsTrue, IfOk, IfErr};
+ghost use Rattle.std.specs.Prelude.{◌≡◌, ◌⊎◌, IsTrue, IsFalse, IfOk, IfErr};
 ghost use Rattle.fb_frame.specs.Causes.{Rose};
 ghost use Rattle.dev_model.specs.Partitions.{is_fastboot};
 ghost use Rattle.dev_model.specs.declared.bad_image.BadImage.{BadImage};
 ghost use Rattle.dev_store.specs.Faults.{IsHonest};
-ghost use Rattle.dev_store.specs.Held.{IsSound, IsWhole};
+ghost use Rattle.dev_store.specs.Held.{IsWhole};
 ghost use Rattle.dev_store.specs.Opening.{IsAbsent, IsBadImage, OpensImage, LeavesImage};
 ghost use Rattle.dev_store.specs.Opening.{OthersKept};
 
@@ -49,7 +49,7 @@ impl<K: Disk> Model for Store<K> {
       owning = option_map (λ w. w.owners) s.within;
       parts = parts_within s.within;
       broken = s.broken;
-    }) s.layout s.state (table_within s.within) };
+    }) s.layout s.state s.within s.buffer.items };
 }
 
 impl<K: Disk> Store<K> {
@@ -89,10 +89,10 @@ impl<K: Disk> Store<K> {
         }
     }
 
-    /// Gives the disk back.
+    /// Gives the disk back. What the image of a broken store stands for is said by the call that failed.
     pub fn into_disk(self) -> K
         ensures disk { result ≡ self.disk }
-        ensures sound { IsSound K.told self }
+        ensures whole { IsFalse self.broken → IsWhole K.told self }
     {
         self.disk
     }

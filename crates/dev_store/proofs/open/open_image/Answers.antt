@@ -1,4 +1,4 @@
-use Rattle.std.proofs.Common.{◌∙◌, arith}
+use Rattle.std.proofs.Common.{◌∙◌, ap, sym, length, arith}
 use Rattle.dev_disk.specs.Disks.{open_bytes}
 use Rattle.dev_store.specs.Layouts.{image_size}
 use Rattle.dev_store.specs.Repairs.{IsRepaired}
@@ -8,7 +8,7 @@ use Rattle.dev_store.specs.Reading.{IsMended, table_within}
 use Rattle.dev_store.proofs.ImageReads.{told-long}
 use Rattle.dev_store.proofs.OpenFiles.{changes-file, opens-told, others-kept}
 use Rattle.dev_store.proofs.OpenSuper.{both-two}
-use Rattle.dev_store.proofs.OpenWhole.{whole, stored, stood-before, is-now}
+use Rattle.dev_store.proofs.OpenWhole.{whole, stored, stood-before, is-now, image-of, lent-long}
 use Rattle.dev_store.proofs.open.open_image.Goals as goal
 
 pub returns-in_default-clause-left : goal.returns-in_default-clause-left
@@ -54,6 +54,10 @@ returns-clause-stored g c =
     let r = c.in-Ok.opened.read in
     let mid = g.K.Disk.told c.read_path.new.disk in
     let new = g.K.Disk.told c.repair_image.new.disk in
-    let long = told-long new (image_size r.layout) (g.met.K.Disk.agrees c.repair_image.new.disk) (c.repair_image.ensures.kept.length ∙ c.in-Ok.ensures.long) in
-    stored g.K.Disk.told c.repair_image.new.disk r c.in-Ok.ensures.sound
+    let length-open = c.repair_image.ensures.kept.length ∙ c.in-Ok.ensures.long in
+    let long-buffer = ap length c.deref_mut.ensures.value ∙ c.in-Ok.ensures.room in
+    let long = told-long new (image_size r.layout) (g.met.K.Disk.agrees c.repair_image.new.disk) length-open in
+    stored g.K.Disk.told c.repair_image.new.disk r _ c.in-Ok.ensures.sound
     (is-now r (open_bytes mid) (open_bytes new) c.in-Ok.ensures.sound c.in-Ok.ensures.read c.in-Ok-repair_image.ensures.mended long)
+    (image-of r (open_bytes mid) (open_bytes new) c.in-Ok.ensures.sound c.in-Ok.ensures.read c.in-Ok-repair_image.ensures.mended)
+    length-open (lent-long 126976 _ _ _ (c.repair_image.auto.buffer ∙ long-buffer) (sym c.deref_mut.ensures.len ∙ long-buffer))
