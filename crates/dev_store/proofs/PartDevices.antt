@@ -5,7 +5,8 @@ use Rattle.std.specs.Option.{option_or}
 use Rattle.std.specs.List.{list_any, list_all}
 use Rattle.std.proofs.lemmas.Bool.Decides.{nat_tests}
 use Rattle.std.proofs.lemmas.Slice.Eq.{bytes_eq-Decides}
-use Rattle.std.proofs.lemmas.List.{drop-drop}
+use Rattle.std.proofs.lemmas.List.{length-replicate}
+use Rattle.std.proofs.lemmas.Simd.{map-map}
 use Rattle.fb_frame.specs.Bytes.{zeros}
 use Rattle.fb_frame.specs.NameText.{is_name}
 use Rattle.fb_frame.specs.Distinct.{are_distinct}
@@ -23,7 +24,7 @@ use Rattle.dev_disk.proofs.Writes.{length-written, differ-written}
 use Rattle.dev_store.specs.Changes.{put_at}
 use Rattle.dev_store.specs.Held.{zeroed, zeroed_physical, zeroed_logical}
 use Rattle.dev_store.specs.StoreCalls.{names_of, part_bytes, IsPartly}
-use Rattle.dev_store.proofs.PartLists.{twice-written}
+use Rattle.dev_store.proofs.PartLists.{twice-written, long-written}
 use Rattle.dev_store.proofs.WrittenLemmas.{written-none}
 use Rattle.dev_store.proofs.SuperRepairLemmas.{widen, differ-then, differ-self}
 
@@ -212,8 +213,36 @@ put_names name at bytes dev =
     let b = map-same (logical_changed name (λ old. written old at bytes)) (λ p. p.name) (λ p. refl) dev.logical in
     λ i. a i ++ b i
 
+-- as long as they were, partitions with zeros have zeros after any write
+chosen-alike : (b : Bool) (at : ℕ) (bytes x y : List ℕ) → length x ≡ length y → length ((if b then (λ old. written old at bytes) else same-bytes) x) ≡ length ((if b then (λ old. written old at bytes) else same-bytes) y)
+chosen-alike true at bytes x y e = long-written x y at bytes e
+chosen-alike false at bytes x y e = e
+
+zeros-long : (n : ℕ) → length (zeros n) ≡ n
+unfolding zeros
+zeros-long n = length-replicate n 0
+
+pub put-of-zeroed : (name : List ℕ) (at : ℕ) (bytes : List ℕ) (dev : Dev) → zeroed (put_at name at bytes (zeroed dev)) ≡ zeroed (put_at name at bytes dev)
+put-of-zeroed name at bytes dev =
+    let a = map-same zeroed_physical (λ p. zeroed_physical (physical_changed name (λ old. written old at bytes) p))
+        (λ p. ap (λ n. record p { bytes = zeros n }) (chosen-alike (bytes_eq p.name name) at bytes (zeros (length p.bytes)) p.bytes (zeros-long (length p.bytes)))) dev.physical in
+    let b = map-same zeroed_logical (λ p. zeroed_logical (logical_changed name (λ old. written old at bytes) p))
+        (λ p. ap (λ n. record p { bytes = zeros n }) (chosen-alike (bytes_eq p.name name) at bytes (zeros (length p.bytes)) p.bytes (zeros-long (length p.bytes)))) dev.logical in
+    let c = λ (ps : List Physical). map-map zeroed_physical (physical_changed name (λ old. written old at bytes)) ps in
+    let d = λ (ps : List Logical). map-map zeroed_logical (logical_changed name (λ old. written old at bytes)) ps in
+    let e = c (map zeroed_physical dev.physical) ∙ (a ∙ sym (c dev.physical)) in
+    let f = d (map zeroed_logical dev.logical) ∙ (b ∙ sym (d dev.logical)) in
+    λ i. record dev { physical = e i; logical = f i }
+
+-- a device that didn't change
+pub partly-self : (name : List ℕ) (at count : ℕ) (dev : Dev) → are_distinct (names_of dev) ≡ true → IsPartly name at count dev dev
+partly-self name at count dev d = record {
+  differs = differ-self at count (part_bytes name dev);
+  same = sym (bytes-self name dev) ∙ bytes-alike name same-bytes (λ _. part_bytes name dev) dev d refl;
+}
+
 -- what the partition has then
-part-put : (name : List ℕ) (at : ℕ) (bytes : List ℕ) (dev : Dev) → at + length bytes ≤ length (part_bytes name dev) → part_bytes name (put_at name at bytes dev) ≡ written (part_bytes name dev) at bytes
+pub part-put : (name : List ℕ) (at : ℕ) (bytes : List ℕ) (dev : Dev) → at + length bytes ≤ length (part_bytes name dev) → part_bytes name (put_at name at bytes dev) ≡ written (part_bytes name dev) at bytes
 part-put name at bytes dev h = by (bytes_of dev name) refl h where
   by : (o : Option (List ℕ)) → bytes_of dev name ≡ o → at + length bytes ≤ length (unwrap_or o []) → part_bytes name (put_at name at bytes dev) ≡ written (part_bytes name dev) at bytes
   by (Some old) e k = part-changed name (λ x. written x at bytes) dev old e ∙ ap (λ o. written (unwrap_or o []) at bytes) (sym e)
