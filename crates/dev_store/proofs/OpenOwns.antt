@@ -23,13 +23,13 @@ use Rattle.dev_store.specs.Held.{device_held, file_or_zeros, super_by, units_by,
 use Rattle.dev_store.specs.Reading.{IsWithinSound, IsReadSound, held_of, table_within, owned_within, parts_within}
 
 -- the first place of a name is the same among partitions and among what they are
-abbrev at-name : List ℕ → Partition → Bool
+abbrev pub at-name : List ℕ → Partition → Bool
 at-name name p = bytes_eq p.name name
 
-abbrev at-logical : List ℕ → Logical → Bool
+abbrev pub at-logical : List ℕ → Logical → Bool
 at-logical name p = bytes_eq p.name name
 
-place-alike : (s : SuperPart) (c : Content) (super name : List ℕ) (ps : List Partition) →
+pub place-alike : (s : SuperPart) (c : Content) (super name : List ℕ) (ps : List Partition) →
     position_or_len (at-logical name) (map (logical_at s c super) ps) ≡ position_or_len (at-name name) ps
 place-alike s c super name [] = refl
 place-alike s c super name (p ∷ ps) = ap (λ n. cond (not (bytes_eq p.name name)) (1 + n) 0) (place-alike s c super name ps)

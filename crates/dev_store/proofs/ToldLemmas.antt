@@ -66,7 +66,7 @@ texted-rows logical name text = (codes "partition-size:" ++ name, text) ∷ (cod
 abbrev pub sized-rows : Bool → List ℕ → ℕ → List NamedText
 sized-rows logical name size = texted-rows logical name (size_text size)
 
-zeros-long : (n : ℕ) → length (zeros n) ≡ n
+pub zeros-long : (n : ℕ) → length (zeros n) ≡ n
 unfolding zeros
 zeros-long n = length-replicate n 0
 

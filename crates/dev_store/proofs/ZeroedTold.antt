@@ -1,5 +1,5 @@
 -- What a device's variables tell is the same for all devices of the same names and lengths.
-use Rattle.std.proofs.Common.{◌≡◌, ◌∙◌, refl, ap, sym, ℕ, Bool, true, false, List, [], ◌∷◌, ◌++◌, map, length, Option}
+use Rattle.std.proofs.Common.{◌≡◌, ◌∙◌, refl, ap, sym, ℕ, Bool, true, false, List, [], ◌∷◌, ◌++◌, map, find, length, cond, Option}
 use Rattle.std.specs.Prelude.{◌||◌, ◌&&◌, bytes_eq, flat_map, filter_map, codes, option_map, option_and_then, Some, None, if◌then◌else◌}
 use Rattle.std.specs.Option.{option_or}
 use Rattle.std.specs.Map.{lookup}
@@ -9,12 +9,12 @@ use Rattle.fb_frame.specs.Bytes.{zeros}
 use Rattle.dev_model.specs.declared.device.Dev.{Dev}
 use Rattle.dev_model.specs.declared.device.Physical.{Physical}
 use Rattle.dev_model.specs.declared.device.Logical.{Logical}
-use Rattle.dev_model.specs.Partitions.{is_partition, is_physical, is_logical, has_slots}
+use Rattle.dev_model.specs.Partitions.{is_partition, is_physical, is_logical, has_slots, bytes_of}
 use Rattle.fb_frame.specs.Slots.{suffix}
 use Rattle.fb_frame.specs.declared.slot.Slot.TheVariants.{A, B}
 use Rattle.dev_model.specs.Variables.{Row as NamedText, partition_rows, device_rows, slot_rows, with_slots_only, plain_rows, all_rows, has_slot, has_slot_row, base_name, base_names, first_ones, slotted_name, value}
 use Rattle.dev_store.specs.Held.{zeroed, zeroed_physical, zeroed_logical}
-use Rattle.dev_store.specs.StoreCalls.{names_of}
+use Rattle.dev_store.specs.StoreCalls.{names_of, kind_of}
 use Rattle.dev_store.specs.Laws.{ZeroedTells}
 use Rattle.dev_store.proofs.ToldLemmas.{sized-rows}
 
@@ -85,6 +85,47 @@ logical-any n (p ∷ ps) = ap (λ b. bytes_eq p.name n || b) (logical-any n ps)
 partition-bare : (d : Dev) (n : List ℕ) → is_partition (bare d) n ≡ is_partition d n
 partition-bare d n = ap (λ b. b || is_logical (bare d) n) (physical-any n d.physical) ∙ ap (λ b. is_physical d n || b) (logical-any n d.logical)
 
+kind-bare : (d : Dev) (n : List ℕ) → kind_of (bare d) n ≡ kind_of d n
+kind-bare d n = ap (λ b. if b then Some (is_logical (bare d) n) else None) (partition-bare d n) ∙ ap (λ b. if is_partition d n then Some b else None) (logical-any n d.logical)
+
+-- the length of the first of a name
+physical-length : (n : List ℕ) (ps : List Physical) → option_map length (option_map (λ p. p.bytes) (find (λ p. bytes_eq p.name n) (map physical-of (map physical-outline ps)))) ≡ option_map length (option_map (λ p. p.bytes) (find (λ p. bytes_eq p.name n) ps))
+physical-length n [] = refl
+physical-length n (p ∷ ps) = by (bytes_eq p.name n) (physical-length n ps)
+  where
+    by : (b : Bool) → option_map length (option_map (λ p. p.bytes) (find (λ p. bytes_eq p.name n) (map physical-of (map physical-outline ps)))) ≡ option_map length (option_map (λ p. p.bytes) (find (λ p. bytes_eq p.name n) ps)) →
+        option_map length (option_map (λ p. p.bytes) (cond b (Some (physical-of (physical-outline p))) (find (λ p. bytes_eq p.name n) (map physical-of (map physical-outline ps)))))
+        ≡ option_map length (option_map (λ p. p.bytes) (cond b (Some p) (find (λ p. bytes_eq p.name n) ps)))
+    by true h = ap Some (zeros-long (length p.bytes))
+    by false h = h
+
+logical-length : (n : List ℕ) (ps : List Logical) → option_map length (option_map (λ p. p.bytes) (find (λ p. bytes_eq p.name n) (map logical-of (map logical-outline ps)))) ≡ option_map length (option_map (λ p. p.bytes) (find (λ p. bytes_eq p.name n) ps))
+logical-length n [] = refl
+logical-length n (p ∷ ps) = by (bytes_eq p.name n) (logical-length n ps)
+  where
+    by : (b : Bool) → option_map length (option_map (λ p. p.bytes) (find (λ p. bytes_eq p.name n) (map logical-of (map logical-outline ps)))) ≡ option_map length (option_map (λ p. p.bytes) (find (λ p. bytes_eq p.name n) ps)) →
+        option_map length (option_map (λ p. p.bytes) (cond b (Some (logical-of (logical-outline p))) (find (λ p. bytes_eq p.name n) (map logical-of (map logical-outline ps)))))
+        ≡ option_map length (option_map (λ p. p.bytes) (cond b (Some p) (find (λ p. bytes_eq p.name n) ps)))
+    by true h = ap Some (zeros-long (length p.bytes))
+    by false h = h
+
+pub or-length : (a b : Option (List ℕ)) → option_map length (option_or a b) ≡ option_or (option_map length a) (option_map length b)
+or-length None b = refl
+or-length (Some bytes) b = refl
+
+abbrev named-bytes : Dev → List ℕ → Option (List ℕ)
+named-bytes d n = option_map (λ p. p.bytes) (find (λ p. bytes_eq p.name n) d.physical)
+
+abbrev logical-bytes : Dev → List ℕ → Option (List ℕ)
+logical-bytes d n = option_map (λ p. p.bytes) (find (λ p. bytes_eq p.name n) d.logical)
+
+length-bare : (d : Dev) (n : List ℕ) → option_map length (bytes_of (bare d) n) ≡ option_map length (bytes_of d n)
+length-bare d n =
+    or-length (named-bytes (bare d) n) (logical-bytes (bare d) n)
+    ∙ (ap (λ o. option_or o (option_map length (logical-bytes (bare d) n))) (physical-length n d.physical)
+    ∙ (ap (option_or (option_map length (named-bytes d n))) (logical-length n d.logical)
+    ∙ sym (or-length (named-bytes d n) (logical-bytes d n))))
+
 partitions-bare : (d : Dev) → is_partition (bare d) ≡ is_partition d
 partitions-bare d = let e = partition-bare d in λ i. λ n. e n i
 
@@ -121,12 +162,15 @@ all-bare d =
     ∙ (ap (λ bs. plain_rows d ++ filter_map (has_slot_row (bare d)) bs) (base-bare d)
     ∙ ap (λ (f : List ℕ → Option (List ℕ)). plain_rows d ++ filter_map (λ base. option_map (λ text. (codes "has-slot:" ++ base, text)) (f base)) (base_names d)) (has-bare d))
 
--- Devices of the same names and lengths, and alike in all else that variables tell, tell the same.
+-- Devices of the same names and lengths, and alike in all else that variables tell, tell the same. Each partition
+-- is of the same kind in both.
 pub record TellAlike (d e : Dev) : Type 0 where
   pub value : (name : List ℕ) → value d name ≡ value e name
   pub all : all_rows d ≡ all_rows e
   pub plain : plain_rows d ≡ plain_rows e
   pub names : names_of d ≡ names_of e
+  pub kind : (name : List ℕ) → kind_of d name ≡ kind_of e name
+  pub length : (name : List ℕ) → option_map length (bytes_of d name) ≡ option_map length (bytes_of e name)
 
 pub tell-alike : (d e : Dev) → bare d ≡ bare e → TellAlike d e
 tell-alike d e h = record {
@@ -134,6 +178,8 @@ tell-alike d e h = record {
   all = sym (all-bare d) ∙ (ap all_rows h ∙ all-bare e);
   plain = sym (plain-bare d) ∙ (ap plain_rows h ∙ plain-bare e);
   names = sym (names-bare d) ∙ (ap names_of h ∙ names-bare e);
+  kind = λ name. sym (kind-bare d name) ∙ (ap (λ x. kind_of x name) h ∙ kind-bare e name);
+  length = λ name. sym (length-bare d name) ∙ (ap (λ x. option_map length (bytes_of x name)) h ∙ length-bare e name);
 }
 
 physical-zeroed : (ps : List Physical) → map physical-outline (map zeroed_physical ps) ≡ map physical-outline ps

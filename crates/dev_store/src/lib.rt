@@ -21,6 +21,7 @@ mod layout_text;
 pub mod make;
 mod making;
 mod making_blocks;
+mod named;
 mod open;
 mod owners;
 mod reads;

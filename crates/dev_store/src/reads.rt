@@ -1,13 +1,17 @@
-ghost use Rattle.std.specs.Prelude.{◌≡◌, ℕ, List, option_map, slice_get};
+ghost use Rattle.std.specs.Prelude.{◌≡◌, ℕ, List, length, option_map, slice_get};
 ghost use Rattle.super_meta.specs.Contents.{content};
 ghost use Rattle.super_meta.specs.Held.{limited};
 ghost use Rattle.dev_store.specs.Reading.{table_within};
 ghost use Rattle.dev_store.specs.ToldRows.{told_device, AreTellable};
+ghost use Rattle.dev_model.specs.Partitions.{bytes_of};
 ghost use Rattle.dev_model.specs.Validity.{IsValid};
 ghost use Rattle.dev_model.specs.Variables.{value, all_rows};
 ghost use Rattle.dev_store.specs.States.{kept_state};
-ghost use Rattle.dev_store.specs.StoreCalls.{Shows, started_in, info_text, names_of};
+ghost use Rattle.dev_store.specs.StoreCalls.{Shows, started_in, info_text, names_of, kind_of};
+ghost use Rattle.dev_store.specs.StoreCalls.{group_of};
+ghost use Rattle.dev_store.specs.Held.{part_of};
 
+use crate::named::{group_of, kind_of, length_of, part_of};
 use crate::state::State;
 use crate::store::Store;
 use crate::super_read::SuperRead;
@@ -69,6 +73,9 @@ impl<K: Disk> Store<K> {
             ≡ value (started_in userspace self.now.device) name }
         ensures all { all_rows (told_device result) ≡ all_rows (started_in userspace self.now.device) }
         ensures names { names_of (told_device result) ≡ names_of self.now.device }
+        ensures kinds { (name : List ℕ) → kind_of (told_device result) name ≡ kind_of self.now.device name }
+        ensures lengths { (name : List ℕ) → option_map length (bytes_of (told_device result) name)
+            ≡ option_map length (bytes_of self.now.device name) }
         ensures tellable { AreTellable result }
     {
         facts_of(&self.layout, &self.state, table_of(&self.within), userspace)
@@ -98,6 +105,42 @@ impl<K: Disk> Store<K> {
     {
         let _ = &self.disk;
         name_at(&self.facts(false), place as usize).copied()
+    }
+
+    /// Whether a partition is a logical one; none where there is no partition of the name.
+    pub fn is_logical(&self, name: &Name) -> Option<bool>
+        ensures kind { result ≡ kind_of self.now.device name.now }
+    {
+        kind_of(&self.facts(false), name.bytes())
+    }
+
+    /// How many bytes a partition has.
+    pub fn length(&self, name: &Name) -> Option<u64>
+        ensures length { result ≡ option_map length (bytes_of self.now.device name.now) }
+        ensures valid { IsValid self.now.device }
+    {
+        let _ = &self.disk;
+        length_of(&self.facts(false), name.bytes())
+    }
+
+    /// The part of a logical partition in the map of units.
+    pub fn place(&self, name: &Name) -> Option<u32>
+        ensures part { result ≡ part_of self.now name.now }
+    {
+        match &self.within {
+            None => None,
+            Some(within) => part_of(&within.table.partitions, &within.parts, name.bytes()),
+        }
+    }
+
+    /// The group of a logical partition.
+    pub fn group_of(&self, name: &Name) -> Option<Name>
+        ensures group { result ≡ group_of self.now.device name.now }
+    {
+        match &self.within {
+            None => None,
+            Some(within) => group_of(&within.table, name.bytes()),
+        }
     }
 
     /// A group, in the table's order.

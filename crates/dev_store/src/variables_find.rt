@@ -53,7 +53,8 @@ fn has_physical(parts: &[PhysicalPart], head: &[u8], of: &[u8]) -> bool
     parts.iter().any(|p| is_joined(head, of, p.name.bytes()))
 }
 
-fn has_logical(parts: &[Partition], head: &[u8], of: &[u8]) -> bool
+/// Whether a logical partition's name is these two parts.
+pub fn has_logical(parts: &[Partition], head: &[u8], of: &[u8]) -> bool
     ensures { result ≡ list_any (λ p. bytes_eq (head.now ++ of.now) p.name) parts.now }
 {
     parts.iter().any(|p| is_joined(head, of, p.name.bytes()))
@@ -87,7 +88,7 @@ pub fn has_slot(facts: &Facts, base: &[u8]) -> Option<bool>
 }
 
 /// How many bytes these extents hold.
-fn size_of(extents: &[Extent]) -> u64
+pub fn size_of(extents: &[Extent]) -> u64
     requires { bytes_in extents.now < 2 ^ 64 }
     ensures { result ≡ bytes_in extents.now }
 {
