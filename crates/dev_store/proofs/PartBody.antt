@@ -1,5 +1,5 @@
 -- What a change of partitions' bytes leaves as it was.
-use Rattle.std.proofs.Common.{◌≡◌, ◌∙◌, refl, ap, sym, subst, ℕ, zero, suc, ◌+◌, ◌*◌, ◌<◌, ◌≤◌, Bool, true, false, List, take, drop, length, Option, Some, None, Result, Ok, Err, arith, ◌==◌, if◌then◌else◌}
+use Rattle.std.proofs.Common.{◌≡◌, ◌∙◌, refl, ap, sym, subst, ℕ, ◌+◌, ◌*◌, ◌<◌, ◌≤◌, Bool, true, false, List, take, length, Option, Some, None, Result, Ok, arith, ◌==◌, if◌then◌else◌}
 use Rattle.std.specs.Prelude.{IsTrue, nat_le}
 use Rattle.std.specs.Option.{option_or}
 use Rattle.std.specs.Result.{result_ok}
@@ -14,14 +14,13 @@ use Rattle.dev_store.specs.declared.layout.PhysicalPart.{PhysicalPart}
 use Rattle.dev_store.specs.declared.layout.SuperPart.{SuperPart}
 use Rattle.dev_store.specs.declared.state.State.{State}
 use Rattle.dev_store.specs.LayoutLines.{first_unit}
-use Rattle.dev_store.specs.Laid.{IsLaid, is_good_super}
+use Rattle.dev_store.specs.Laid.{is_good_super}
 use Rattle.dev_store.specs.Layouts.{LayoutValue, layout_in, layout_of, text_in, image_size}
 use Rattle.dev_store.specs.States.{record_of, record_in, state_copy}
 use Rattle.dev_store.specs.Supers.{geometry_copy, holds_geometry, copy_place, copy_reads, table_read, are_good_units}
-use Rattle.dev_store.specs.Stand.{SuperIsAlike, IsAlike, Settled, owned, owned_of, owned_by, owned_in, stand, check, or_bad, table_in, super_found, super_bytes, super_value}
+use Rattle.dev_store.specs.Stand.{SuperIsAlike, Settled, owned, owned_of, owned_by, owned_in, stand, check, or_bad, table_in, super_found, super_bytes, super_value}
 use Rattle.dev_store.specs.SuperBounds.{IsBounded}
 use Rattle.dev_store.specs.Held.{IsKept, IsTabled, device_held, super_by}
-use Rattle.dev_store.specs.Reading.{IsFront}
 use Rattle.dev_store.specs.PartWrites.{IsFrontKept, IsBodyChanged, IsTableOf, IsImageOf}
 use Rattle.dev_store.proofs.UnitLemmas.{bounded}
 use Rattle.dev_store.proofs.ValidLemmas.{laid-in}

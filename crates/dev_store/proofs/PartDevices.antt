@@ -1,8 +1,8 @@
 -- Devices with bytes put over a range of a partition.
-use Rattle.std.proofs.Common.{◌≡◌, ◌∙◌, refl, ap, sym, subst, ℕ, suc, ◌+◌, ◌≤◌, Bool, true, false, not, ◌&&◌, ◌||◌, List, [], ◌∷◌, ◌++◌, map, find, length, take, drop, Option, Some, None, option_map, option_to_list, unwrap_or, inl, inr, arith, append_assoc, if◌then◌else◌}
-use Rattle.std.specs.Prelude.{◌⊎◌, IsTrue, bytes_eq, nat_le}
+use Rattle.std.proofs.Common.{◌≡◌, ◌∙◌, refl, ap, sym, subst, ℕ, ◌+◌, ◌≤◌, Bool, true, false, not, ◌||◌, List, [], ◌∷◌, ◌++◌, map, find, length, Option, Some, None, option_map, option_to_list, unwrap_or, arith, if◌then◌else◌}
+use Rattle.std.specs.Prelude.{bytes_eq, nat_le}
 use Rattle.std.specs.Option.{option_or}
-use Rattle.std.specs.List.{list_any, list_all}
+use Rattle.std.specs.List.{list_all}
 use Rattle.std.proofs.lemmas.Bool.Decides.{nat_tests}
 use Rattle.std.proofs.lemmas.Slice.Eq.{bytes_eq-Decides}
 use Rattle.std.proofs.lemmas.List.{length-replicate}
@@ -15,7 +15,7 @@ use Rattle.dev_model.specs.declared.device.Physical.{Physical}
 use Rattle.dev_model.specs.declared.device.Logical.{Logical}
 use Rattle.dev_model.specs.Partitions.{bytes_of, physical_changed, logical_changed, with_bytes}
 use Rattle.dev_model.specs.Validity.{IsValid, all_names}
-use Rattle.dev_model.proofs.Names.{Mem, among, any-mem, mem-any, distinct-left, distinct-right, distinct-apart}
+use Rattle.dev_model.proofs.Names.{among, any-mem, distinct-left, distinct-right, distinct-apart}
 use Rattle.dev_model.proofs.Valid.{both, map-same, not-back, or-false}
 use Rattle.dev_model.proofs.ValidBytes.{KeepsLength, bytes-valid}
 use Rattle.dev_model.proofs.KeepingLemmas.{writes_one, writes_twice, writes-alike}

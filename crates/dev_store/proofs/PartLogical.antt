@@ -1,22 +1,19 @@
 -- Writing in a logical partition.
-use Rattle.std.proofs.Common.{◌≡◌, ◌∙◌, refl, ap, sym, subst, ℕ, ◌+◌, ◌*◌, ◌<◌, ◌≤◌, Bool, true, false, List, [], ◌∷◌, ◌++◌, map, find, length, take, drop, sum_by, Option, Some, None, option_map, unwrap_or, arith, if◌then◌else◌}
+use Rattle.std.proofs.Common.{◌≡◌, ◌∙◌, refl, ap, sym, subst, ℕ, ◌+◌, ◌*◌, ◌<◌, ◌≤◌, Bool, true, false, List, [], ◌∷◌, ◌++◌, map, find, length, take, drop, Option, Some, None, option_map, unwrap_or, arith, if◌then◌else◌}
 use Rattle.std.specs.Prelude.{◌||◌, bytes_eq, nat_lt}
 use Rattle.std.specs.Option.{option_or}
 use Rattle.std.specs.List.{list_all, flat_map, range_with_len}
 use Rattle.fb_frame.specs.Distinct.{are_distinct}
-use Rattle.dev_model.specs.declared.device.Dev.{Dev}
-use Rattle.dev_model.specs.declared.device.Physical.{Physical}
 use Rattle.dev_model.specs.declared.device.Logical.{Logical}
 use Rattle.dev_model.specs.Partitions.{physical_changed, logical_changed, with_bytes}
 use Rattle.dev_model.specs.Validity.{IsValid}
 use Rattle.dev_model.proofs.Names.{among, any-mem, distinct-right, distinct-apart}
 use Rattle.dev_model.proofs.Valid.{both}
-use Rattle.dev_disk.specs.Files.{written, DifferWithin}
+use Rattle.dev_disk.specs.Files.{written}
 use Rattle.unit_alloc.specs.Owning.{times_in}
 use Rattle.unit_alloc.proofs.TimesLemmas.{times_in-append}
 use Rattle.super_meta.specs.declared.table.Partition.{Partition}
 use Rattle.super_meta.specs.Contents.{Content}
-use Rattle.super_meta.specs.Held.{group_name}
 use Rattle.dev_store.specs.declared.layout.SuperPart.{SuperPart}
 use Rattle.dev_store.specs.declared.state.State.{State}
 use Rattle.dev_store.specs.LayoutLines.{first_unit, unit_count}
@@ -25,15 +22,14 @@ use Rattle.dev_store.specs.Supers.{extents_of, bytes_in, units_of, unit_bytes, u
 use Rattle.dev_store.specs.Stand.{physical_at, super_bytes, super_value, device_with}
 use Rattle.dev_store.specs.Held.{super_by}
 use Rattle.dev_store.specs.StoreCalls.{part_bytes}
-use Rattle.dev_store.specs.PartWrites.{IsFrontKept, IsBodyChanged}
-use Rattle.dev_store.proofs.OpenLemmas.{take-of, physical-front}
+use Rattle.dev_store.proofs.OpenLemmas.{physical-front}
 use Rattle.dev_store.proofs.OwnedOnce.{found-times}
-use Rattle.dev_store.proofs.ValidSuper.{AreUnits, units-long, part-below, part-holds}
+use Rattle.dev_store.proofs.ValidSuper.{AreUnits, units-long, part-holds}
 use Rattle.dev_store.proofs.ValidUnits.{times-once}
-use Rattle.dev_store.proofs.PartLists.{take-of-written, range-written}
+use Rattle.dev_store.proofs.PartLists.{take-of-written}
 use Rattle.dev_store.proofs.PartDevices.{unnamed, rest-unnamed, physical-keeps, logical-keeps, names-apart, found-some}
 use Rattle.dev_store.proofs.PartPhysical.{device-at}
-use Rattle.dev_store.proofs.PartRuns.{IsRun, IsKeptBut, run-split, units-kept, run-written}
+use Rattle.dev_store.proofs.PartRuns.{IsRun, run-split, units-kept, run-written}
 
 -- each unit but those of this list has its bytes
 abbrev IsKeptOut : SuperPart → List ℕ → List ℕ → List ℕ → Type 0

@@ -1,29 +1,26 @@
 -- Writing in a physical partition.
-use Rattle.std.proofs.Common.{◌≡◌, ◌∙◌, refl, ap, sym, subst, ℕ, ◌+◌, ◌≤◌, Bool, true, false, List, [], ◌∷◌, ◌++◌, map, find, length, take, drop, sum_by, Option, Some, None, option_map, option_to_list, unwrap_or, inl, inr, arith, append_assoc, if◌then◌else◌}
+use Rattle.std.proofs.Common.{◌≡◌, ◌∙◌, refl, ap, sym, subst, ℕ, ◌+◌, ◌≤◌, Bool, true, false, List, [], ◌∷◌, map, find, take, drop, sum_by, Option, Some, None, option_map, unwrap_or, inl, arith, if◌then◌else◌}
 use Rattle.std.specs.Prelude.{◌||◌, bytes_eq}
 use Rattle.dev_store.specs.LayoutLines.{first_unit}
 use Rattle.std.specs.Option.{option_or}
-use Rattle.std.specs.List.{list_all, list_any}
 use Rattle.std.proofs.lemmas.List.Sums.{sum_by-cons}
-use Rattle.fb_frame.specs.Told.{Both}
 use Rattle.fb_frame.specs.Distinct.{are_distinct}
 use Rattle.dev_model.specs.declared.device.Dev.{Dev}
 use Rattle.dev_model.specs.declared.device.Physical.{Physical}
-use Rattle.dev_model.specs.declared.device.Logical.{Logical}
-use Rattle.dev_model.specs.Partitions.{physical_changed, logical_changed, with_bytes, bytes_of}
+use Rattle.dev_model.specs.Partitions.{physical_changed, logical_changed, with_bytes}
 use Rattle.dev_model.specs.Validity.{IsValid}
 use Rattle.dev_model.proofs.Names.{among, distinct-left}
 use Rattle.dev_model.proofs.Valid.{both}
-use Rattle.dev_disk.specs.Files.{written, DifferWithin}
+use Rattle.dev_disk.specs.Files.{DifferWithin}
 use Rattle.dev_disk.proofs.Writes.{kept-outside}
 use Rattle.super_meta.specs.Contents.{Content}
 use Rattle.dev_store.specs.declared.layout.PhysicalPart.{PhysicalPart}
 use Rattle.dev_store.specs.declared.layout.SuperPart.{SuperPart}
 use Rattle.dev_store.specs.declared.state.State.{State}
-use Rattle.dev_store.specs.Layouts.{LayoutValue, parts_end, image_size}
-use Rattle.dev_store.specs.Stand.{physical_at, super_bytes, super_value, device_with}
-use Rattle.dev_store.specs.Held.{device_held, super_by, file_or_zeros, IsKept}
-use Rattle.dev_store.specs.StoreCalls.{names_of, part_bytes}
+use Rattle.dev_store.specs.Layouts.{LayoutValue, parts_end}
+use Rattle.dev_store.specs.Stand.{physical_at, super_value, device_with}
+use Rattle.dev_store.specs.Held.{super_by}
+use Rattle.dev_store.specs.StoreCalls.{part_bytes}
 use Rattle.dev_store.specs.PartWrites.{physical_place, IsFrontKept, IsBodyChanged}
 use Rattle.dev_store.proofs.ValidLemmas.{names-same}
 use Rattle.dev_store.proofs.OpenLemmas.{drop-of, take-of, physical-rest}

@@ -1,13 +1,11 @@
 -- What a write in a partition, good or failed, makes of the device of an image and of the image.
-use Rattle.std.proofs.Common.{◌≡◌, ◌∙◌, refl, ap, sym, subst, ℕ, ◌+◌, ◌*◌, ◌<◌, ◌≤◌, Bool, true, false, List, [], ◌∷◌, ◌++◌, find, length, take, drop, sum_by, Option, Some, None, option_map, unwrap_or, arith, length-append}
+use Rattle.std.proofs.Common.{◌≡◌, ◌∙◌, refl, ap, sym, subst, ℕ, ◌+◌, ◌*◌, ◌<◌, ◌≤◌, true, List, [], ◌++◌, find, length, take, drop, Option, Some, None, option_map, unwrap_or, arith}
 use Rattle.std.specs.Prelude.{IfSome, bytes_eq, slice_index}
 use Rattle.std.specs.List.{flat_map}
-use Rattle.std.proofs.Math.Seq.{take-add}
-use Rattle.std.proofs.lemmas.List.{drop-drop, length-replicate}
+use Rattle.std.proofs.lemmas.List.{length-replicate}
 use Rattle.fb_frame.specs.Told.{Both}
 use Rattle.fb_frame.specs.Bytes.{zeros}
 use Rattle.dev_model.specs.declared.device.Dev.{Dev}
-use Rattle.dev_model.specs.Partitions.{with_bytes}
 use Rattle.dev_model.specs.Validity.{IsValid}
 use Rattle.dev_disk.specs.Files.{written, DifferWithin, Wrote, IsRead, copy}
 use Rattle.dev_disk.proofs.Writes.{differ-written, read-written}
@@ -25,7 +23,7 @@ use Rattle.dev_store.specs.Stand.{super_bytes}
 use Rattle.dev_store.specs.SuperBounds.{IsBounded}
 use Rattle.dev_store.specs.Held.{zeroed, seen, file_or_zeros, device_held, IsKept, IsTabled}
 use Rattle.dev_store.specs.StoreCalls.{part_bytes, IsPartly, IsRangeRead}
-use Rattle.dev_store.specs.PartWrites.{physical_place, IsFrontKept, IsBodyChanged, IsPartWritten}
+use Rattle.dev_store.specs.PartWrites.{physical_place, IsFrontKept, IsBodyChanged, IsPartWritten, IsLeftIn}
 use Rattle.dev_store.proofs.OpenLemmas.{take-of}
 use Rattle.dev_store.proofs.OpenSuper.{both-then}
 use Rattle.dev_store.proofs.OpenWhole.{kept-valid}
@@ -170,10 +168,7 @@ range-put layout state table name at place bytes (Some old) (Some new) k r w = r
   body = subst (IsBodyChanged layout old) (sym w) (r.body old bytes k refl);
 }
 
--- what a failed write left in the range of a partition
-abbrev pub IsLeftIn : LayoutValue → (Option (List ℕ) → Dev) → (List ℕ → Dev → Dev) → ℕ → Option (List ℕ) → Option (List ℕ) → Type 0
-IsLeftIn layout dev put count old new = (left : List ℕ) × (length left ≡ count) × IsPartWritten layout dev (put left) old new
-
+-- a failed write in such a range
 range-left : (layout : LayoutValue) (state : State) (table : Option Content) (name : List ℕ) (at count place : ℕ) (old new : Option (List ℕ)) → IsKept layout state table old →
     IsRangeOf layout state table name at count place → Both (DifferWithin place count) old new → IsLeftIn layout (device_held layout state table) (put_at name at) count old new
 range-left layout state table name at count place None None k r d =

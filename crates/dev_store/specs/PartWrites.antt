@@ -40,6 +40,12 @@ pub record IsPartWritten (layout : LayoutValue) (dev : Option (List ℕ) → Dev
   pub device : dev new ≡ seen new (change (dev old))
   pub body : Both (IsBodyChanged layout) old new
 
+-- A failed write left as many bytes as are said: the device is changed as by a write of those.
+abbrev pub IsLeftIn : LayoutValue → (Option (List ℕ) → Dev) → (List ℕ → Dev → Dev) → ℕ →
+    Option (List ℕ) → Option (List ℕ) → Type 0
+IsLeftIn layout dev put count old new =
+    (left : List ℕ) × (length left ≡ count) × IsPartWritten layout dev (put left) old new
+
 -- a block of super holds the geometry, and this table is read
 pub record HasTableIn (s : SuperPart) (super : List ℕ) (table : Content) : Type 0 where
   pub geometry : IsTrue (if holds_geometry s (geometry_copy false super) then true
