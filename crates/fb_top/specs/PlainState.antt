@@ -15,13 +15,9 @@ flag locked = if locked then 1 else 0
 unfoldable pub state_head : Bool → List ℕ
 state_head locked = codes "FBST" ++ (to_le_bytes w32 1 ++ flag locked ∷ replicate 23 0)
 
--- the SHA-256 of the bytes
-unfoldable pub digest_of : List ℕ → List ℕ
-digest_of bytes = sha256 bytes
-
 -- the second 32 bytes of a block are the digest of the first, and zeros follow
 unfoldable pub is_sealed : List ℕ → Bool
-is_sealed block = bytes_eq (take 32 (drop 32 block)) (digest_of (take 32 block)) && list_all is_zero (drop 64 block)
+is_sealed block = bytes_eq (take 32 (drop 32 block)) (sha256 (take 32 block)) && list_all is_zero (drop 64 block)
 
 -- whether a device is locked, by the first 32 bytes of its record
 abbrev pub state_from : List ℕ → Option Bool

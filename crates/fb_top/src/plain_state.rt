@@ -1,8 +1,8 @@
 ghost use Rattle.std.specs.Prelude.{◌≡◌, ◌≤◌, length};
-ghost use Rattle.fb_top.specs.PlainState.{digest_of, state_head, is_sealed, state_from, state_of_block, state_of};
+ghost use Rattle.fb_top.specs.PlainState.{state_head, is_sealed, state_from, state_of_block, state_of};
 
 use crate::plain_layout::are_zeros;
-use sha2::{Digest, Sha256};
+use fb_frame::digest::digest;
 
 /// Whether the device is locked, by the first of both blocks that is a state record of version 1; None
 /// where neither is.
@@ -27,13 +27,6 @@ fn state_of_block(block: &[u8]) -> Option<bool>
     } else {
         None
     }
-}
-
-#[tactic(auto, unfolding(crate::specs::PlainState::digest_of))]
-fn digest(bytes: &[u8]) -> [u8; 32]
-    ensures { result ≡ digest_of bytes.now }
-{
-    Sha256::digest(bytes)
 }
 
 #[tactic(auto, using(crate::proofs::PlainLists::front_length, crate::proofs::PlainLists::rest_is), unfolding(crate::specs::PlainState::is_sealed))]

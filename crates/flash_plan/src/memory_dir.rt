@@ -1,10 +1,12 @@
-ghost use Rattle.std.specs.Prelude.{◌≡◌, ◌↔◌, ◌+◌, ◌-◌, ◌<◌, ◌≤◌, min, [], length, take, drop, option_map, Some, None, false, IfOk, IsTrue, MatchOption, string_bytes};
-ghost use Rattle.std.specs.Result.{IsErr, IsErrOf};
+ghost use Rattle.std.specs.Prelude.{◌≡◌, ◌+◌, ◌-◌, ◌<◌, ◌≤◌, min, [], length, take, drop, Some, None, false};
+ghost use Rattle.std.specs.Prelude.{IfOk, is_err, MatchOption, string_bytes};
 ghost use Rattle.fb_frame.specs.Causes.{Rose, HasCause};
 ghost use Rattle.flash_plan.specs.Files.{IsThere, HasSize, MayRead, IsRead};
-ghost use Rattle.flash_plan.specs.MemoryFiles.{file_of, fails_next, after_call, after_enter, after_read};
+ghost use Rattle.fb_frame.specs.Failing.{fails_next};
+ghost use Rattle.flash_plan.specs.MemoryFiles.{file_of, after_call, after_enter, after_read};
 
 use crate::dir::{DirFault, EnterError, ProductDir};
+use fb_frame::failures::Failures;
 use fb_frame::memory::Memory;
 use std::alloc::Global;
 use std::marker::Model;
@@ -21,10 +23,8 @@ pub struct DirFile {
 pub struct MemoryDir {
     path: String,
     files: Vec<DirFile>,
-    fails: Vec<u64>,
-    calls: u64,
+    failures: Failures,
     entered: bool,
-    faults: u64,
     longest: u32,
 }
 
@@ -34,7 +34,13 @@ impl Model for MemoryDir {
 
     ghost Value = { MemoryFolder };
 
-    ghost view = { λ dir. record { path = string_bytes dir.path; files = dir.files.items; fails = dir.fails.items; calls = dir.calls; entered = dir.entered; faults = dir.faults; longest = dir.longest } };
+    ghost view = { λ dir. record {
+      path = string_bytes dir.path;
+      files = dir.files.items;
+      failing = dir.failures;
+      entered = dir.entered;
+      longest = dir.longest;
+    } };
 }
 
 impl MemoryDir {
@@ -50,10 +56,8 @@ impl MemoryDir {
             dir ≡ record {
               path = path.now;
               files = files.items;
-              fails = fails.items;
-              calls = 0;
+              failing = record { fails = fails.items; room = None; calls = 0; faults = 0 };
               entered = false;
-              faults = 0;
               longest = 0;
             }) }
     {
@@ -61,10 +65,8 @@ impl MemoryDir {
         Ok(MemoryDir {
             path,
             files,
-            fails,
-            calls: 0,
+            failures: Failures::new(fails),
             entered: false,
-            faults: 0,
             longest: 0,
         })
     }
@@ -79,15 +81,13 @@ impl MemoryDir {
     /// Counts a call of the trait, which may be one that fails.
     fn count(&mut self) -> Result<(), DirFault>
         ensures after { self.new ≡ after_call self.old }
-        ensures fails { IsErr result ↔ IsTrue (fails_next self.old) }
-        ensures cause { HasCause self.old.faults self.new.faults result }
+        ensures fails { is_err result ≡ fails_next self.old.failing 0 }
+        ensures cause { HasCause self.old.failing.faults self.new.failing.faults result }
     {
-        self.calls = self.calls.saturating_add(1);
-        if self.fails.contains(&self.calls) {
-            self.faults = self.faults.saturating_add(1);
-            return Err(DirFault);
+        match self.failures.pass(0) {
+            Ok(()) => Ok(()),
+            Err(_) => Err(DirFault),
         }
-        Ok(())
     }
 }
 
@@ -125,16 +125,16 @@ impl ProductDir for MemoryDir {
 
     ghost entered = { λ dir. dir.entered };
 
-    ghost faults = { λ dir. dir.faults };
+    ghost faults = { λ dir. dir.failing.faults };
 
     ghost lent = { λ dir. tt };
 
     fn enter(&mut self, _alloc: Global, path: &str) -> Result<bool, EnterError>
         ensures entered { IfOk result (λ there. self.new.entered ≡ there) }
         ensures there { IfOk result (λ there. IsThere (Some self.old.path) path.now there) }
-        ensures fails { IsErr result ↔ IsTrue (fails_next self.old) }
+        ensures fails { is_err result ≡ fails_next self.old.failing 0 }
         ensures after { self.new ≡ after_enter self.old path.now }
-        ensures cause { HasCause self.old.faults self.new.faults result }
+        ensures cause { HasCause self.old.failing.faults self.new.failing.faults result }
     {
         self.entered = false;
         let Ok(()) = self.count() else {
@@ -146,9 +146,9 @@ impl ProductDir for MemoryDir {
 
     fn size(&mut self, name: &[u8]) -> Result<Option<u64>, DirFault>
         ensures size { IfOk result (λ size. HasSize (Some (file_of self.old.files)) name.now size) }
-        ensures fails { IsErr result ↔ IsTrue (fails_next self.old) }
+        ensures fails { is_err result ≡ fails_next self.old.failing 0 }
         ensures after { self.new ≡ after_call self.old }
-        ensures cause { HasCause self.old.faults self.new.faults result }
+        ensures cause { HasCause self.old.failing.faults self.new.failing.faults result }
     {
         self.count()?;
         match file_at(self.files.as_slice(), name) {
@@ -163,9 +163,9 @@ impl ProductDir for MemoryDir {
         ensures some { IfOk result (λ n. 0 < length buf.new → 0 < n) }
         ensures read { IfOk result (λ n.
             IsRead (Some (file_of self.old.files)) name.now at (take n buf.new)) }
-        ensures fails { IsErr result ↔ IsTrue (fails_next self.old) }
+        ensures fails { is_err result ≡ fails_next self.old.failing 0 }
         ensures after { self.new ≡ after_read self.old (length buf.old) }
-        ensures cause { HasCause self.old.faults self.new.faults result }
+        ensures cause { HasCause self.old.failing.faults self.new.failing.faults result }
     {
         let asked = buf.len().min(u32::MAX as usize) as u32;
         self.longest = self.longest.max(asked);

@@ -2,7 +2,8 @@ use Rattle.std.proofs.Common.{◌≡◌, ℕ, Bool, true, List, take, drop, sym,
 use Rattle.std.specs.Prelude.{◌&&◌, bytes_eq}
 use Rattle.std.specs.List.{list_all}
 use Rattle.fb_top.specs.PlainLayout.{is_zero}
-use Rattle.fb_top.specs.PlainState.{is_sealed, digest_of}
+use Rattle.sha2.specs.Sha256.{sha256}
+use Rattle.fb_top.specs.PlainState.{is_sealed}
 use Rattle.fb_top.proofs.PlainLists.{front_length, rest_is}
 use Rattle.fb_top.proofs.plain_state.is_sealed.Goals as goal
 
@@ -16,5 +17,5 @@ sealed-by part sum digest zeros rest r e p q t u v =
 pub returns-then-eq : goal.returns-then-eq
 unfolding is_sealed
 returns-then-eq c =
-    sealed-by (take 32 (drop 32 c.args.block.now)) c.as_slice.result.now (digest_of (take 32 c.args.block.now)) _ (drop 64 c.args.block.now)
+    sealed-by (take 32 (drop 32 c.args.block.now)) c.as_slice.result.now (sha256 (take 32 c.args.block.now)) _ (drop 64 c.args.block.now)
     c.are_zeros.result c.eq.result c.if-eq.true c.eq.ensures (c.as_slice.ensures ∙ c.digest-sum.ensures) c.are_zeros.ensures (rest_is 64 c.args.block.now)
