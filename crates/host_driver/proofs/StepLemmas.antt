@@ -22,7 +22,7 @@ use Rattle.wire_model.specs.TableFile.{tables_of}
 use Rattle.host_driver.specs.Commands.{IsDecided, IsBooted, Decisions, TookStep, RefusedStep}
 
 -- Replies that end with one that isn't the only one.
-alone : (infos : List Reply) (x y : Reply) → y ∷ [] ≡ infos ++ x ∷ [] → y ≡ x
+pub alone : (infos : List Reply) (x y : Reply) → y ∷ [] ≡ infos ++ x ∷ [] → y ≡ x
 alone [] x y e = cc
 alone (i ∷ infos) x y e = absurd (omega (arith, ap length e, length-append infos (x ∷ [])))
 
@@ -35,17 +35,17 @@ okay-fail x y e = cc
 same-text : (x y : List ℕ) → Fail x ≡ Fail y → x ≡ y
 same-text x y e = cc
 
-decides-okay : (o : Option (List ℕ)) (change : Dev → Dev) (dev : Dev) (loaded : Loaded) (infos : List Reply) (line : List ℕ) →
+pub decides-okay : (o : Option (List ℕ)) (change : Dev → Dev) (dev : Dev) (loaded : Loaded) (infos : List Reply) (line : List ℕ) →
     (decides o change dev loaded).replies ≡ infos ++ Okay line ∷ [] → (o ≡ None) × ((decides o change dev loaded).device ≡ change dev)
 decides-okay (Some text) change dev loaded infos line e = absurd (fail-okay text line (alone infos (Okay line) (Fail text) e))
 decides-okay None change dev loaded infos line e = (refl, refl)
 
-decides-fail : (o : Option (List ℕ)) (change : Dev → Dev) (dev : Dev) (loaded : Loaded) (infos : List Reply) (line : List ℕ) →
+pub decides-fail : (o : Option (List ℕ)) (change : Dev → Dev) (dev : Dev) (loaded : Loaded) (infos : List Reply) (line : List ℕ) →
     (decides o change dev loaded).replies ≡ infos ++ Fail line ∷ [] → (o ≡ Some line) × ((decides o change dev loaded).device ≡ dev)
 decides-fail (Some text) change dev loaded infos line e = (ap Some (same-text text line (alone infos (Fail line) (Fail text) e)), refl)
 decides-fail None change dev loaded infos line e = absurd (okay-fail [] line (alone infos (Fail line) (Okay []) e))
 
-took : (s : Step) (dev t : Dev) → is_fastboot dev.mode ≡ true → refusal_of s dev ≡ None → t ≡ apply s dev → TookStep s dev t
+pub took : (s : Step) (dev t : Dev) → is_fastboot dev.mode ≡ true → refusal_of s dev ≡ None → t ≡ apply s dev → TookStep s dev t
 took s dev t f e g = record { can_so = takes_unless_refused s dev f ∙ ap is_none e; taken = g }
 
 -- A step that a command decides: OKAY tells that the device took it, FAIL that it refuses it with this text.

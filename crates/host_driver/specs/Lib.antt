@@ -9,3 +9,4 @@ pub mod Commands
 pub mod LinkOuts
 pub mod Logs
 pub mod PutPieces
+pub mod Stepping

@@ -9,6 +9,7 @@ pub mod drive;
 pub mod link_out;
 pub mod log_port;
 pub mod send_piece;
+mod step;
 
 /// The laws of installations.
 pub fn laws()

@@ -1,0 +1,63 @@
+//! A step of a plan that is decided by one command.
+ghost use Rattle.std.specs.Prelude.{◌≡◌, ◌≤◌, ℕ, IsTrue, IfOk, IfErr, None};
+ghost use Rattle.fb_frame.specs.Causes.{Rose};
+ghost use Rattle.fb_message.specs.CommandText.{command_value, is_written};
+ghost use Rattle.dev_model.specs.declared.step.Step.{Step};
+ghost use Rattle.wire_told.specs.Answered.{announces};
+ghost use Rattle.fb_link.specs.Seen.{seen};
+ghost use Rattle.host_driver.specs.Stepping.{TakesAll, Serving, IsCommandAt, IsStepped, IsStopped, stop_of};
+
+use crate::drive::DriveError;
+use fb_frame::sink::Sink;
+use fb_link::link_error::LinkError;
+use fb_link::port::Port;
+use fb_link::states::{Answer, Lost, Ready};
+use fb_message::command::Command;
+use fb_message::packet::Packet;
+
+/// What a lost connection is to an installation.
+pub(crate) fn stopped(error: LinkError) -> DriveError
+    ensures { result ≡ stop_of error }
+{
+    match error {
+        LinkError::Link => DriveError::Link,
+        LinkError::Ended => DriveError::Ended,
+        LinkError::BadHandshake(four) => DriveError::Peer(Packet::of(&four)),
+        LinkError::BadLength(n) => DriveError::Peer(Packet::of(&n.to_be_bytes())),
+        LinkError::BadReply(reply) => DriveError::Peer(reply),
+        LinkError::TooManyInfos => DriveError::TooManyInfos,
+    }
+}
+
+/// Takes a step by its command: sends it and hears the replies, of which each line is shown.
+pub(crate) fn take<P: Port, S: Sink>(
+    ready: Ready<P>,
+    command: &Command<'_>,
+    shown: &mut S,
+) -> Result<Ready<P>, (Lost<P>, DriveError)>
+    requires takes { TakesAll P.takes }
+    requires written { IsTrue (is_written (command_value command.now)) }
+    requires plain { announces (command_value command.now) ≡ None }
+    requires serving { Serving 4104 (P.told ready).peer }
+    ensures same { IfOk result (λ r. P.lent r ≡ P.lent ready) }
+    ensures same_lost { IfErr result (λ e. P.lent e.0 ≡ P.lent ready) }
+    ensures stepped { IfOk result (λ r. (step : Step) →
+        IsCommandAt (command_value command.now) step (P.told ready).peer →
+        IsStepped (command_value command.now) step
+        (seen (P.told ready) (S.text shown.old)) (seen (P.told r) (S.text shown.new))) }
+    ensures stopped { IfErr result (λ e. (step : Step) →
+        IsCommandAt (command_value command.now) step (P.told ready).peer →
+        IsStopped (command_value command.now) step
+        (seen (P.told ready) (S.text shown.old)) (seen (P.told e.0) (S.text shown.new)) e.1) }
+    ensures shown_later { S.faults shown.old ≤ S.faults shown.new }
+    ensures output { IfErr result (λ e.
+        e.1 ≡ DriveError.Output → Rose (S.faults shown.old) (S.faults shown.new)) }
+{
+    match ready.command(command, shown) {
+        Answer::Okay(ready, _) => Ok(ready),
+        Answer::Fail(ready, text) => Err((ready.hang_up(), DriveError::Refused(text))),
+        Answer::Broken(lost, error) => Err((lost, stopped(error))),
+        Answer::Load(_) => unreachable!(),
+        Answer::Unshown(lost) => Err((lost, DriveError::Output)),
+    }
+}
