@@ -24,7 +24,7 @@ use Rattle.dev_store.proofs.OpenLemmas.{physical-front, take-of}
 use Rattle.dev_store.proofs.ValidLemmas.{range-long}
 use Rattle.dev_store.proofs.ValidSuper.{units-long}
 use Rattle.dev_store.proofs.ValidUnits.{all-take}
-use Rattle.dev_store.specs.TableChanges.{IsFitted, LiesIn, IsPadded}
+use Rattle.dev_store.specs.TableChanges.{IsFitted, LiesIn, IsTailChanged, IsPadded}
 
 -- units that don't stand from a number on are below it
 pub all-below : (n : ℕ) (us : List ℕ) → ((u : ℕ) → n ≤ u → times_in u us ≡ 0) → list_all (λ u. nat_lt u n) us ≡ true
@@ -126,7 +126,7 @@ padded-lies layout s p units more count size old new long pos below fit lies c p
     let t : m ≤ length (take count units) * s.unit = least count (length units) (length (take count units)) m s.unit (length-take count units) a b in
     let front : take m (units_bytes s super list) ≡ take m (units_bytes s super units) =
     after-bytes s super (take count units) more m long pos (all-take (λ u. nat_lt u (unit_count s)) count units below) t ∙ front-bytes s super units count m long pos below a b in
-    let same : take m x ≡ take m (units_bytes s super list) = take-of m len x (units_bytes s super list) (omega arith) padded.kept in
+    let same : take m x ≡ take m (units_bytes s super list) = take-of m len x (units_bytes s super list) (omega arith) padded.tail.kept in
     let own : take m (units_bytes s super units) ≡ take m p.bytes = sym (take-take m len (units_bytes s super units) (omega arith)) ∙ ap (take m) (sym lies) in
     let whole : take size x ≡ cut_or_padded size p.bytes =
     cut-in-two size len x ∙ (λ i. (same ∙ (front ∙ (own ∙ cut-parts size p.bytes))) i ++ padded.padded i) in
@@ -140,22 +140,22 @@ padded-lies layout s p units more count size old new long pos below fit lies c p
         by (inr (t, g)) = let w : min a b ≡ b = omega arith in let z = ap (λ x. x * unit) (e ∙ w) in omega arith
 
 -- the same bytes still lie in the units where others come after them
-pub kept-lies : (layout : LayoutValue) (s : SuperPart) (p : Logical) (units more : List ℕ) (size : ℕ) (old new : List ℕ) → length (super_bytes layout s old) ≡ s.size →
+pub kept-lies : (layout : LayoutValue) (s : SuperPart) (p : Logical) (units more : List ℕ) (old new : List ℕ) → length (super_bytes layout s old) ≡ s.size →
     length (super_bytes layout s new) ≡ s.size → 0 < s.unit → list_all (λ u. nat_lt u (unit_count s)) units ≡ true → IsFitted s.unit p units → LiesIn s (super_bytes layout s old) p units →
-    IsPadded layout s (units ++ more) (length p.bytes) size old new → LiesIn s (super_bytes layout s new) p units
-kept-lies layout s p units more size old new long long-new pos below fit lies padded =
+    IsTailChanged layout s (units ++ more) (length p.bytes) old new → LiesIn s (super_bytes layout s new) p units
+kept-lies layout s p units more old new long long-new pos below fit lies tail =
     let len = length p.bytes in
     let f = div_ceil_times len s.unit pos in
     let q = ap (λ n. n * s.unit) fit.many in
     let b : len ≤ length units * s.unit = omega arith in
     lies ∙ (sym (after-bytes s (super_bytes layout s old) units more len long pos below b)
-    ∙ (sym padded.kept ∙ after-bytes s (super_bytes layout s new) units more len long-new pos below b))
+    ∙ (sym tail.kept ∙ after-bytes s (super_bytes layout s new) units more len long-new pos below b))
 
 -- a partition of other units keeps its bytes
-pub other-lies : (layout : LayoutValue) (s : SuperPart) (p : Logical) (units changed : List ℕ) (from size : ℕ) (old new : List ℕ) → LiesIn s (super_bytes layout s old) p units →
-    ((u : ℕ) → times_in u changed + times_in u units ≤ 1) → IsPadded layout s changed from size old new → LiesIn s (super_bytes layout s new) p units
-other-lies layout s p units changed from size old new lies apart padded =
-    lies ∙ ap (take (length p.bytes)) (sym (units-same s (super_bytes layout s old) (super_bytes layout s new) units (λ u h. padded.others u (let a = apart u in omega arith))))
+pub other-lies : (layout : LayoutValue) (s : SuperPart) (p : Logical) (units changed : List ℕ) (from : ℕ) (old new : List ℕ) → LiesIn s (super_bytes layout s old) p units →
+    ((u : ℕ) → times_in u changed + times_in u units ≤ 1) → IsTailChanged layout s changed from old new → LiesIn s (super_bytes layout s new) p units
+other-lies layout s p units changed from old new lies apart tail =
+    lies ∙ ap (take (length p.bytes)) (sym (units-same s (super_bytes layout s old) (super_bytes layout s new) units (λ u h. tail.others u (let a = apart u in omega arith))))
 
 -- zeros alone lie in units that are padded from their beginning on
 pub zeros-lie : (layout : LayoutValue) (s : SuperPart) (p : Logical) (units : List ℕ) (size : ℕ) (old new : List ℕ) → p.bytes ≡ replicate size 0 → IsPadded layout s units 0 size old new →
@@ -168,7 +168,28 @@ zeros-lie layout s p units size old new e padded =
     e ∙ (sym (ap (λ k. replicate k 0) z) ∙ (sym padded.padded ∙ ap (λ k. take k x) (z ∙ sym n)))
 
 -- the physical partitions are as they were
-pub physical-same : (layout : LayoutValue) (s : SuperPart) (units : List ℕ) (from size : ℕ) (old new : List ℕ) → IsPadded layout s units from size old new →
+pub physical-same : (layout : LayoutValue) (s : SuperPart) (units : List ℕ) (from : ℕ) (old new : List ℕ) → IsTailChanged layout s units from old new →
     physical_at 12288 layout.physical new ≡ physical_at 12288 layout.physical old
-physical-same layout s units from size old new padded =
-    physical-front 12288 layout.physical new old (take-of (parts_end layout.physical) (parts_end layout.physical + first_unit s) new old (omega arith) padded.front)
+physical-same layout s units from old new tail =
+    physical-front 12288 layout.physical new old (take-of (parts_end layout.physical) (parts_end layout.physical + first_unit s) new old (omega arith) tail.front)
+
+-- nothing is written where a partition doesn't grow, and what is written in turn
+pub tail-none : (layout : LayoutValue) (s : SuperPart) (units : List ℕ) (from : ℕ) (file : List ℕ) → IsTailChanged layout s units from file file
+tail-none layout s units from file = record { same_length = refl; front = refl; others = λ u h. refl; kept = refl }
+
+pub tail-then : (layout : LayoutValue) (s : SuperPart) (units : List ℕ) (from : ℕ) (a b c : List ℕ) → IsTailChanged layout s units from a b → IsTailChanged layout s units from b c → IsTailChanged layout s units from a c
+tail-then layout s units from a b c h k = record {
+  same_length = k.same_length ∙ h.same_length;
+  front = k.front ∙ h.front;
+  others = λ u z. k.others u z ∙ h.others u z;
+  kept = k.kept ∙ h.kept;
+}
+
+pub padded-none : (layout : LayoutValue) (s : SuperPart) (units : List ℕ) (from size : ℕ) (file : List ℕ) → size ≤ from → IsPadded layout s units from size file file
+unfolding zeros
+padded-none layout s units from size file h =
+    let z : size - from ≡ 0 = omega arith in
+    record {
+      tail = tail-none layout s units from file;
+      padded = ap (λ n. take n (drop from (units_bytes s (super_bytes layout s file) units))) z ∙ sym (ap (λ n. replicate n 0) z);
+    }
