@@ -5,7 +5,6 @@ use Rattle.unit_alloc.specs.Owning.{Owning, units_of}
 use Rattle.fb_frame.specs.declared.tables.TableGroup.{TableGroup}
 use Rattle.dev_model.specs.declared.device.Dev.{Dev}
 use Rattle.dev_model.specs.declared.device.Logical.{Logical}
-use Rattle.dev_model.specs.Sizes.{units_for}
 use Rattle.dev_model.specs.Validity.{IsValid}
 use Rattle.super_meta.specs.declared.table.Group.{Group}
 use Rattle.super_meta.specs.declared.table.Partition.{Partition}
@@ -16,6 +15,7 @@ use Rattle.dev_store.specs.declared.table_build.Planned.{Planned}
 use Rattle.dev_store.specs.LayoutLines.{unit_count}
 use Rattle.dev_store.specs.Supers.{own_device, are_different, extents_of, bytes_in}
 use Rattle.dev_store.specs.Runs.{Run, runs_of, extents_for, group_place}
+use Rattle.dev_store.specs.TableChanges.{AreFitted}
 
 -- a run by its first unit and its length
 abbrev pub run_of : ℕ × ℕ → Run
@@ -92,14 +92,14 @@ planned_all c [] parts = []
 planned_all c (p ∷ partitions) [] = []
 planned_all c (p ∷ partitions) (part ∷ parts) = planned_as c p part ∷ planned_all c partitions parts
 
--- The logical partitions have these units: each as many as its length needs, none twice, and each is there.
+-- The logical partitions have these units: each as many as it needs, no unit twice, and only units that are there.
 pub record AreGiven (s : SuperPart) (logical : List Logical) (lists : List (List ℕ)) : Type 0 where
-  pub enough : map (length {A = ℕ}) lists ≡ map (λ p. units_for s.unit (length p.bytes)) logical
+  pub fitted : AreFitted s.unit logical lists
   pub different : IsTrue (are_different (flat_map (λ units. units) lists))
   pub there : IsTrue (list_all (λ unit. nat_lt unit (unit_count s)) (flat_map (λ units. units) lists))
 
--- The device is one of these physical partitions and this super.
-pub record IsDeviceOf (parts : List PhysicalPart) (s : SuperPart) (dev : Dev) : Type 0 where
+-- The device is one with these physical partitions and this super.
+pub record IsOnSuper (parts : List PhysicalPart) (s : SuperPart) (dev : Dev) : Type 0 where
   pub valid : IsValid dev
   pub named : dev.super_name ≡ Some s.name
   pub physical : map (λ p. p.name) dev.physical ≡ map (λ p. p.name) parts
