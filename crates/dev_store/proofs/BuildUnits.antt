@@ -31,6 +31,16 @@ unfolding runs_of
 runs-few [] = omega arith
 runs-few (u ∷ units) = let f = on-few u (runs_of units) in let m = runs-few units in omega arith
 
+-- so many extents more
+pub added-count : (s : SuperPart) (bytes : ℕ) (units : List ℕ) (old new : List Extent) → new ≡ old ++ extents_for s bytes (runs_of units) → length new ≡ length old + length (runs_of units)
+added-count s bytes units old new h =
+    ap length h ∙ (length-append old (extents_for s bytes (runs_of units)) ∙ ap (λ n. length old + n) (extents-many s bytes (runs_of units)))
+
+pub added-few : (s : SuperPart) (bytes : ℕ) (units : List ℕ) (old new : List Extent) → new ≡ old ++ extents_for s bytes (runs_of units) → length new ≤ length old + length units
+added-few s bytes units old new h = let c = added-count s bytes units old new h in let f = runs-few units in omega arith
+
+pub ruleset added = (added-count, added-few, runs-few)
+
 -- the extents of a partition with these units
 abbrev pub extents_with : SuperPart → Logical × List ℕ → List Extent
 extents_with s x = extents_for s (length x.0.bytes) (runs_of x.1)

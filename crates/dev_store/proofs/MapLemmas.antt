@@ -1,8 +1,8 @@
 -- The map of units once each partition of a table was handed its own.
 use Rattle.std.proofs.Common.{◌≡◌, ◌≢◌, ℕ, zero, suc, ◌+◌, ◌-◌, ◌<◌, ◌≤◌, Bool, true, false, not, List, [], ◌∷◌, ◌++◌, length, get_or, set, map, replicate, refl, sym, ap, ◌∙◌, arith, Some, add-one, zero-add, inl, inr, ◌⊎◌, length-set}
-use Rattle.std.specs.Prelude.{◌&&◌, ◌||◌, ◌==◌, nat_le, slice_get, IsTrue, IsFalse}
+use Rattle.std.specs.Prelude.{◌&&◌, ◌||◌, ◌==◌, nat_le, nat_lt, slice_get, IsTrue, IsFalse}
 use Rattle.std.specs.List.{list_all, list_any, flat_map, range_with_len}
-use Rattle.std.proofs.lemmas.List.{get_or-set_same, get_or-set_other}
+use Rattle.std.proofs.lemmas.List.{get_or-set_same, get_or-set_other, length-replicate}
 use Rattle.std.proofs.lemmas.List.FromFn.{length-range_with_len, get_or-range_with_len}
 use Rattle.std.proofs.lemmas.Option.{slice_get_within, get_or_from_slice_get}
 use Rattle.std.proofs.lemmas.Bool.{false≢true}
@@ -16,6 +16,7 @@ use Rattle.dev_store.specs.LayoutLines.{unit_count}
 use Rattle.dev_store.specs.Supers.{are_different}
 use Rattle.dev_store.specs.Supers.{units_of as units_of_table}
 use Rattle.dev_store.specs.SuperBounds.{are_free, claimed, IsMapOf}
+use Rattle.dev_store.proofs.ValidUnits.{range-below}
 
 and-all : (a b : Bool) → b ≡ true → (a && b) ≡ a
 and-all true b h = h
@@ -71,6 +72,11 @@ claimed-units : (s : SuperPart) (c : Content) (o : Owning) (part : ℕ) (ps : Li
 claimed-units s c o part [] = refl
 claimed-units s c o part (p ∷ ps) = claimed-units s c (handed o part (units_of_table s c p)) (part + 1) ps
 
+claimed-many : (s : SuperPart) (c : Content) (o : Owning) (part : ℕ) (ps : List Partition) → length (claimed s c o part ps).parts ≡ length o.parts
+claimed-many s c o part [] = refl
+claimed-many s c o part (p ∷ ps) =
+    claimed-many s c (handed o part (units_of_table s c p)) (part + 1) ps ∙ length-set o.parts part (units_of o part ++ units_of_table s c p)
+
 -- the number of a part is among the first ones
 any-range : (a n part : ℕ) → a ≤ part → part < a + n → list_any (λ p. p == part) (range_with_len a n) ≡ true
 any-range a zero part low high = absurd (omega arith)
@@ -109,6 +115,8 @@ mapped s c units owning parts u few e n =
     let ps = c.partitions in
     record {
       units = ap (λ r. r.units) n ∙ (claimed-units s c o 0 ps ∙ u);
+      many = ap (λ r. length r.parts) n ∙ (claimed-many s c o 0 ps ∙ length-replicate {A = List ℕ} 128 []);
+      there = ap (list_all (λ part. nat_lt part 128)) e ∙ range-below 0 (length ps) 128 (omega arith);
       lists = (λ i. map (units_of (n i)) (e i)) ∙ claimed-own s c o 0 ps (omega arith) (λ j h. none-at 128 j);
       apart = λ i j part h k. sym (range-at (length ps) i part (ap (λ l. slice_get l i) (sym e) ∙ h)) ∙ range-at (length ps) j part (ap (λ l. slice_get l j) (sym e) ∙ k);
       empty = λ part h.

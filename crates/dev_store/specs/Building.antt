@@ -1,5 +1,5 @@
 -- How the next table is built: one partition after another, each with the maximal runs of its units.
-use Rattle.std.specs.Prelude.{◌≡◌, ℕ, ◌+◌, ◌<◌, List, [], ◌∷◌, ◌++◌, length, map, sum_by, nat_lt, Some, IsTrue}
+use Rattle.std.specs.Prelude.{◌≡◌, ℕ, ◌-◌, ◌^◌, Bool, List, [], ◌∷◌, ◌++◌, length, take, drop, map, sum_by, nat_lt, Some, IsTrue}
 use Rattle.std.specs.List.{list_all, flat_map}
 use Rattle.unit_alloc.specs.Owning.{Owning, units_of}
 use Rattle.fb_frame.specs.declared.tables.TableGroup.{TableGroup}
@@ -91,6 +91,14 @@ abbrev pub planned_all : Content → List Partition → List ℕ → List Planne
 planned_all c [] parts = []
 planned_all c (p ∷ partitions) [] = []
 planned_all c (p ∷ partitions) (part ∷ parts) = planned_as c p part ∷ planned_all c partitions parts
+
+-- those from one place up to another
+abbrev pub planned_range : Content → List ℕ → ℕ → ℕ → List Planned
+planned_range c parts from to = take (to - from) (drop from (planned_all c c.partitions parts))
+
+-- the bytes of the partition can be counted in 64 bits
+abbrev pub is_short : Content → Partition → Bool
+is_short c p = nat_lt (bytes_in (extents_of c p)) (2 ^ 64)
 
 -- The logical partitions have these units: each as many as it needs, no unit twice, and only units that are there.
 pub record AreGiven (s : SuperPart) (logical : List Logical) (lists : List (List ℕ)) : Type 0 where

@@ -1,5 +1,5 @@
 -- The numbers of super and of its units, and which units each logical partition has.
-use Rattle.std.specs.Prelude.{◌≡◌, ℕ, ◌+◌, ◌*◌, ◌%◌, ◌^◌, ◌<◌, ◌≤◌, Bool, true, false, not, ◌&&◌, nat_le}
+use Rattle.std.specs.Prelude.{◌≡◌, ℕ, ◌+◌, ◌*◌, ◌%◌, ◌^◌, ◌<◌, ◌≤◌, Bool, true, false, not, ◌&&◌, nat_le, nat_lt}
 use Rattle.std.specs.Prelude.{List, [], ◌∷◌, length, map, slice_get, Option, Some, None, IsTrue, IsFalse}
 use Rattle.std.specs.Prelude.{if◌then◌else◌, ◌==◌}
 use Rattle.std.specs.List.{list_all, list_any}
@@ -55,10 +55,12 @@ claimed s c owning part [] = owning
 claimed s c owning part (p ∷ partitions) =
     claimed s c (handed owning part (units_of s c p)) (part + 1) partitions
 
--- Each partition of a table has its units as a part of its own, in the table's order, and no other part has
--- units.
+-- Each partition of a table has its units as a part of its own, in the table's order, and no other of the 128
+-- parts has units.
 pub record IsMapOf (s : SuperPart) (c : Content) (owning : Owning) (parts : List ℕ) : Type 0 where
   pub units : owning.units ≡ unit_count s
+  pub many : length owning.parts ≡ 128
+  pub there : IsTrue (list_all (λ part. nat_lt part 128) parts)
   pub lists : map (units_owned owning) parts ≡ map (units_of s c) c.partitions
   pub apart : (i j part : ℕ) → slice_get parts i ≡ Some part → slice_get parts j ≡ Some part → i ≡ j
   pub empty : (part : ℕ) → IsFalse (list_any (λ p. p == part) parts) → units_owned owning part ≡ []

@@ -184,7 +184,7 @@ pub(crate) fn extents_of<'a>(extents: &'a [Extent], partition: &Partition) -> &'
 }
 
 /// How many bytes extents hold.
-fn bytes_in(extents: &[Extent]) -> u128
+pub(crate) fn bytes_in(extents: &[Extent]) -> u128
     requires { length extents.now < 2 ^ 32 }
     ensures bytes { result ≡ bytes_in extents.now }
     ensures bounded { result < 2 ^ 105 }
