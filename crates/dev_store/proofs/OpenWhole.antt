@@ -64,7 +64,7 @@ tabled-valid layout state None (Some c) file e laid fits t long = absurd t
 tabled-valid layout state (Some s) None file e laid fits t long = absurd t
 tabled-valid layout state (Some s) (Some c) file e laid fits t long = super_makes_valid layout s state c file t.1.0 laid e long t.1.1 t.0 fits
 
-file-long : (layout : LayoutValue) (o : Option (List ℕ)) → IfSome o (λ file. length file ≡ image_size layout) → length (file_or_zeros layout o) ≡ image_size layout
+pub file-long : (layout : LayoutValue) (o : Option (List ℕ)) → IfSome o (λ file. length file ≡ image_size layout) → length (file_or_zeros layout o) ≡ image_size layout
 unfolding zeros
 file-long layout None h = length-replicate (image_size layout) 0
 file-long layout (Some file) h = h

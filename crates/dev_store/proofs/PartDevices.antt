@@ -5,7 +5,6 @@ use Rattle.std.specs.Option.{option_or}
 use Rattle.std.specs.List.{list_all}
 use Rattle.std.proofs.lemmas.Bool.Decides.{nat_tests}
 use Rattle.std.proofs.lemmas.Slice.Eq.{bytes_eq-Decides}
-use Rattle.std.proofs.lemmas.List.{length-replicate}
 use Rattle.std.proofs.lemmas.Simd.{map-map}
 use Rattle.fb_frame.specs.Bytes.{zeros}
 use Rattle.fb_frame.specs.NameText.{is_name}
@@ -25,6 +24,7 @@ use Rattle.dev_store.specs.Changes.{put_at}
 use Rattle.dev_store.specs.Held.{zeroed, zeroed_physical, zeroed_logical}
 use Rattle.dev_store.specs.StoreCalls.{names_of, part_bytes, IsPartly}
 use Rattle.dev_store.proofs.PartLists.{twice-written, long-written}
+use Rattle.dev_store.proofs.MadeText.{length-zeros}
 use Rattle.dev_store.proofs.WrittenLemmas.{written-none}
 use Rattle.dev_store.proofs.SuperRepairLemmas.{widen, differ-then, differ-self}
 
@@ -63,18 +63,18 @@ alike-found : {X : Type 0} (nm : X → List ℕ) (f g : X → X) (name : List �
 alike-found nm f g name x keeps holds e [] d h = absurd cc
 alike-found nm f g name x keeps holds e (y ∷ ys) d h =
     by (bytes_eq (nm y) name) refl (alike-found nm f g name x keeps holds e ys (both _ (are_distinct (map nm ys)) d).1) h where
-  by : (b : Bool) → bytes_eq (nm y) name ≡ b → (find (λ y. bytes_eq (nm y) name) ys ≡ Some x → map f ys ≡ map g ys) → (if b then Some y else find (λ y. bytes_eq (nm y) name) ys) ≡ Some x →
-      map f (y ∷ ys) ≡ map g (y ∷ ys)
-  by true k more m =
-      let same : x ≡ y = sym cc in
-      let free = rest-unnamed (nm y) name (map nm ys) d k in
-      let one : f y ≡ g y = subst (λ z. f z ≡ g z) same e in
-      let rest = unnamed nm f name keeps ys free ∙ sym (unnamed nm g name holds ys free) in
-      λ i. one i ∷ rest i
-  by false k more m =
-      let one : f y ≡ g y = keeps y k ∙ sym (holds y k) in
-      let rest = more m in
-      λ i. one i ∷ rest i
+      by : (b : Bool) → bytes_eq (nm y) name ≡ b → (find (λ y. bytes_eq (nm y) name) ys ≡ Some x → map f ys ≡ map g ys) → (if b then Some y else find (λ y. bytes_eq (nm y) name) ys) ≡ Some x →
+          map f (y ∷ ys) ≡ map g (y ∷ ys)
+      by true k more m =
+          let same : x ≡ y = sym cc in
+          let free = rest-unnamed (nm y) name (map nm ys) d k in
+          let one : f y ≡ g y = subst (λ z. f z ≡ g z) same e in
+          let rest = unnamed nm f name keeps ys free ∙ sym (unnamed nm g name holds ys free) in
+          λ i. one i ∷ rest i
+      by false k more m =
+          let one : f y ≡ g y = keeps y k ∙ sym (holds y k) in
+          let rest = more m in
+          λ i. one i ∷ rest i
 
 pub physical-keeps : (name : List ℕ) (f : List ℕ → List ℕ) (p : Physical) → bytes_eq p.name name ≡ false → physical_changed name f p ≡ p
 physical-keeps name f p e = ap (λ b. record p { bytes = (if b then f else λ x. x) p.bytes }) e
@@ -89,7 +89,7 @@ names-apart dev v =
     let ls = map (λ p. p.name) dev.logical in
     distinct-left (ps ++ ls) (option_to_list dev.super_name) (both (list_all is_name (all_names dev)) (are_distinct (all_names dev)) v.names).1
 
-not-among : (b : Bool) → (b ≡ true → ⊥) → b ≡ false
+pub not-among : (b : Bool) → (b ≡ true → ⊥) → b ≡ false
 not-among true h = absurd (h refl)
 not-among false h = refl
 
@@ -132,7 +132,7 @@ bytes-alike name f g dev d h = by (find (λ p. bytes_eq p.name name) dev.physica
       (no-logical (other-unnamed name ps ls d (found-some (λ p. p.name) name dev.physical p e)))
   by None (Some q) e k m =
       let is : part_bytes name dev ≡ q.bytes = ap (λ o. unwrap_or (option_or (option_map (λ p. p.bytes) o) (option_map (λ p. p.bytes) (find (λ p. bytes_eq p.name name) dev.logical))) []) e
-          ∙ ap (λ o. unwrap_or (option_map (λ p. p.bytes) o) []) k in
+      ∙ ap (λ o. unwrap_or (option_map (λ p. p.bytes) o) []) k in
       let one : logical_changed name f q ≡ logical_changed name g q = ap (λ z. record q { bytes = z }) (changed-at (bytes_eq q.name name) f g q.bytes (part_bytes name dev) (sym is) m) in
       same (no-physical (found-none (λ p. p.name) name dev.physical e))
       (alike-found (λ p. p.name) (logical_changed name f) (logical_changed name g) name q (logical-keeps name f) (logical-keeps name g) one dev.logical (distinct-right ps ls d) k)
@@ -218,16 +218,12 @@ chosen-alike : (b : Bool) (at : ℕ) (bytes x y : List ℕ) → length x ≡ len
 chosen-alike true at bytes x y e = long-written x y at bytes e
 chosen-alike false at bytes x y e = e
 
-zeros-long : (n : ℕ) → length (zeros n) ≡ n
-unfolding zeros
-zeros-long n = length-replicate n 0
-
 pub put-of-zeroed : (name : List ℕ) (at : ℕ) (bytes : List ℕ) (dev : Dev) → zeroed (put_at name at bytes (zeroed dev)) ≡ zeroed (put_at name at bytes dev)
 put-of-zeroed name at bytes dev =
     let a = map-same zeroed_physical (λ p. zeroed_physical (physical_changed name (λ old. written old at bytes) p))
-        (λ p. ap (λ n. record p { bytes = zeros n }) (chosen-alike (bytes_eq p.name name) at bytes (zeros (length p.bytes)) p.bytes (zeros-long (length p.bytes)))) dev.physical in
+    (λ p. ap (λ n. record p { bytes = zeros n }) (chosen-alike (bytes_eq p.name name) at bytes (zeros (length p.bytes)) p.bytes (length-zeros (length p.bytes)))) dev.physical in
     let b = map-same zeroed_logical (λ p. zeroed_logical (logical_changed name (λ old. written old at bytes) p))
-        (λ p. ap (λ n. record p { bytes = zeros n }) (chosen-alike (bytes_eq p.name name) at bytes (zeros (length p.bytes)) p.bytes (zeros-long (length p.bytes)))) dev.logical in
+    (λ p. ap (λ n. record p { bytes = zeros n }) (chosen-alike (bytes_eq p.name name) at bytes (zeros (length p.bytes)) p.bytes (length-zeros (length p.bytes)))) dev.logical in
     let c = λ (ps : List Physical). map-map zeroed_physical (physical_changed name (λ old. written old at bytes)) ps in
     let d = λ (ps : List Logical). map-map zeroed_logical (logical_changed name (λ old. written old at bytes)) ps in
     let e = c (map zeroed_physical dev.physical) ∙ (a ∙ sym (c dev.physical)) in
@@ -270,7 +266,7 @@ pub partly_after : (name : List ℕ) (at more : ℕ) (bytes : List ℕ) (dev t :
 partly_after name at more bytes dev t h k =
     let first = widen at (length bytes) at (length bytes + more) (part_bytes name dev) (written (part_bytes name dev) at bytes) (differ-written (part_bytes name dev) at bytes h) (omega arith) (omega arith) in
     let later = widen (at + length bytes) more at (length bytes + more) (written (part_bytes name dev) at bytes) (part_bytes name t)
-        (subst (λ x. DifferWithin (at + length bytes) more x (part_bytes name t)) (part-put name at bytes dev h) k.differs) (omega arith) (omega arith) in
+    (subst (λ x. DifferWithin (at + length bytes) more x (part_bytes name t)) (part-put name at bytes dev h) k.differs) (omega arith) (omega arith) in
     record {
       differs = differ-then at (length bytes + more) (part_bytes name dev) (written (part_bytes name dev) at bytes) (part_bytes name t) first later;
       same = k.same ∙ writes_twice name (λ old. written old at bytes) (λ _. part_bytes name t) dev;

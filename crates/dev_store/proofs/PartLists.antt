@@ -13,12 +13,11 @@ change-written old new at count d h =
     let e = d.same_length in
     let n = length-drop at new in
     let long : length (copy new at count) ≡ count = length-take-le count (drop at new) (omega arith) in
-    let rest : drop count (drop at new) ≡ drop (at + length (copy new at count)) old = drop-drop count at new ∙ (d.rest ∙ ap (λ k. drop (at + k) old) (sym long)) in
-    (
+    let rest : drop count (drop at new) ≡ drop (at + length (copy new at count)) old = drop-drop count at new ∙ (d.rest ∙ ap (λ k. drop (at + k) old) (sym long)) in (
       long,
       sym (take-append-drop at new)
-      ∙ (ap (λ t. t ++ drop at new) d.front
-      ∙ ap (λ t. take at old ++ t) (sym (take-append-drop count (drop at new)) ∙ ap (λ t. copy new at count ++ t) rest)),
+          ∙ (ap (λ t. t ++ drop at new) d.front
+          ∙ ap (λ t. take at old ++ t) (sym (take-append-drop count (drop at new)) ∙ ap (λ t. copy new at count ++ t) rest)),
     )
 
 -- what is behind a place, after a write behind it
@@ -102,6 +101,6 @@ pub long-written : (a b : List ℕ) (at : ℕ) (bytes : List ℕ) → length a �
 unfolding written
 long-written a b at bytes e =
     let long = λ (l : List ℕ). length-append (take at l) (bytes ++ drop (at + length bytes) l)
-        ∙ (ap (λ n. n + length (bytes ++ drop (at + length bytes) l)) (length-take at l)
-        ∙ ap (λ n. min at (length l) + n) (length-append bytes (drop (at + length bytes) l) ∙ ap (λ n. length bytes + n) (length-drop (at + length bytes) l))) in
+    ∙ (ap (λ n. n + length (bytes ++ drop (at + length bytes) l)) (length-take at l)
+    ∙ ap (λ n. min at (length l) + n) (length-append bytes (drop (at + length bytes) l) ∙ ap (λ n. length bytes + n) (length-drop (at + length bytes) l))) in
     long a ∙ (ap (λ n. min at n + (length bytes + (n - (at + length bytes)))) e ∙ sym (long b))

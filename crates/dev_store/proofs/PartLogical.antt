@@ -27,7 +27,7 @@ use Rattle.dev_store.proofs.OwnedOnce.{found-times}
 use Rattle.dev_store.proofs.ValidSuper.{AreUnits, units-long, part-holds}
 use Rattle.dev_store.proofs.ValidUnits.{times-once}
 use Rattle.dev_store.proofs.PartLists.{take-of-written}
-use Rattle.dev_store.proofs.PartDevices.{unnamed, rest-unnamed, physical-keeps, logical-keeps, names-apart, found-some}
+use Rattle.dev_store.proofs.PartDevices.{unnamed, rest-unnamed, physical-keeps, logical-keeps, names-apart, found-some, not-among}
 use Rattle.dev_store.proofs.PartPhysical.{device-at}
 use Rattle.dev_store.proofs.PartRuns.{IsRun, run-split, units-kept, run-written}
 
@@ -71,19 +71,19 @@ partitions-changed s c name change q old new kept e (p ∷ ps) d once h =
       by true k m more =
           let is : q ≡ p = ap (λ (o : Option Partition). unwrap_or o q) (sym m) in
           let own : logical_at s c new p ≡ record (logical_at s c old p) { bytes = change (logical_at s c old p).bytes } =
-              ap (λ bytes. record (logical_at s c old p) { bytes = bytes }) (sym (subst (λ z. change (logical_at s c old z).bytes ≡ (logical_at s c new z).bytes) is e)) in
+          ap (λ bytes. record (logical_at s c old p) { bytes = bytes }) (sym (subst (λ z. change (logical_at s c old z).bytes ≡ (logical_at s c new z).bytes) is e)) in
           let one : logical_at s c new p ≡ logical_changed name change (logical_at s c old p) = own ∙ at true (logical_at s c old p) k in
           let rest = partitions-kept s c old new ps
-              (λ u l. kept u (ap (λ z. times_in u (units_of s c z)) is ∙ (let o = once u in let a = add u in omega arith))) in
+          (λ u l. kept u (ap (λ z. times_in u (units_of s c z)) is ∙ (let o = once u in let a = add u in omega arith))) in
           let free : among name (map (λ p. p.name) (map (logical_at s c old) ps)) ≡ false = ap (among name) (names-told s c old ps) ∙ rest-unnamed p.name name (map (λ p. p.name) ps) d k in
           let others = rest ∙ sym (unnamed (λ p. p.name) (logical_changed name change) name (logical-keeps name change) (map (logical_at s c old) ps) free) in
           λ i. one i ∷ others i
       by false k m more =
           let few : (u : ℕ) → times_in u (units_of s c q) ≤ times_in u (flat_map (units_of s c) ps) =
-              λ u. subst (λ o. times_in u (unwrap_or (option_map (units_of s c) o) []) ≤ times_in u (flat_map (units_of s c) ps)) m (found-times (units_of s c) name u ps) in
+          λ u. subst (λ o. times_in u (unwrap_or (option_map (units_of s c) o) []) ≤ times_in u (flat_map (units_of s c) ps)) m (found-times (units_of s c) name u ps) in
           let one : logical_at s c new p ≡ logical_changed name change (logical_at s c old p) =
-              partition-kept s c old new p (λ u l. kept u (let o = once u in let a = add u in let f = few u in omega arith))
-              ∙ sym (logical-keeps name change (logical_at s c old p) k) in
+          partition-kept s c old new p (λ u l. kept u (let o = once u in let a = add u in let f = few u in omega arith))
+          ∙ sym (logical-keeps name change (logical_at s c old p) k) in
           let rest = more m in
           λ i. one i ∷ rest i
 
@@ -97,10 +97,6 @@ super-changed layout part s c name change old new e h =
 
 pub logical-in : (layout : LayoutValue) (part : Option SuperPart) (s : SuperPart) (c : Content) (file : List ℕ) → part ≡ Some s → (super_by layout part (Some c) file).logical ≡ map (logical_at s c (super_bytes layout s file)) c.partitions
 logical-in layout part s c file e = ap (λ q. (super_by layout q (Some c) file).logical) e
-
-not-among : (b : Bool) → (b ≡ true → ⊥) → b ≡ false
-not-among true h = absurd (h refl)
-not-among false h = refl
 
 pub logical-changed : (layout : LayoutValue) (state : State) (s : SuperPart) (c : Content) (name : List ℕ) (change : List ℕ → List ℕ) (q : Partition) (old new : List ℕ) →
     IsValid (device-at layout state (Some c) old) → layout.super_part ≡ Some s → AreUnits layout.physical s c → find (λ p. bytes_eq p.name name) c.partitions ≡ Some q →
@@ -118,7 +114,7 @@ logical-changed layout state s c name change q old new v e good h front kept own
     let parts : physical_at 12288 layout.physical new ≡ dev.physical = physical-front 12288 layout.physical new old front in
     let same = unnamed (λ p. p.name) (physical_changed name change) name (physical-keeps name change) dev.physical apart in
     let logical = partitions-changed s c name change q (super_bytes layout s old) (super_bytes layout s new) kept own c.partitions
-        (ap are_distinct (sym named) ∙ distinct-right ps ls d) (λ u. times-once u (flat_map (units_of s c) c.partitions) good.different) h in
+    (ap are_distinct (sym named) ∙ distinct-right ps ls d) (λ u. times-once u (flat_map (units_of s c) c.partitions) good.different) h in
     let super = super-changed layout layout.super_part s c name change old new e logical in
     λ i. device_with layout state ((parts ∙ sym same) i) (super i)
 
@@ -150,7 +146,7 @@ logical-is layout state s c name q file v e h =
     let there : among name ls ≡ true = ap (among name) named ∙ found-some (λ p. p.name) name c.partitions q h in
     let apart : among name ps ≡ false = not-among (among name ps) (λ m. distinct-apart ps ls (names-apart dev v) name (any-mem name ps m) (any-mem name ls there)) in
     let found : find (λ p. bytes_eq p.name name) dev.logical ≡ Some (logical_at s c (super_bytes layout s file) q) =
-        ap (find (λ p. bytes_eq p.name name)) (logical-in layout layout.super_part s c file e) ∙ found-told s c (super_bytes layout s file) name q c.partitions h in
+    ap (find (λ p. bytes_eq p.name name)) (logical-in layout layout.super_part s c file e) ∙ found-told s c (super_bytes layout s file) name q c.partitions h in
     ap (λ o. unwrap_or (option_or (option_map (λ p. p.bytes) o) (option_map (λ p. p.bytes) (find (λ p. bytes_eq p.name name) dev.logical))) []) (unfound (λ p. p.name) name dev.physical apart)
     ∙ ap (λ o. unwrap_or (option_map (λ p. p.bytes) o) []) found
 

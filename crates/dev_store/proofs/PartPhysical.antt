@@ -56,21 +56,21 @@ parts-changed name change place (p ∷ parts) b n old new d h w e =
           let at : b ≡ place = sym (ap (λ (o : Option (ℕ × ℕ)). (unwrap_or {T = ℕ × ℕ} o (0, 0)).0) k) in
           let size : n ≡ p.size = sym (ap (λ (o : Option (ℕ × ℕ)). (unwrap_or {T = ℕ × ℕ} o (0, 0)).1) k) in
           let own : change (take p.size (drop place old)) ≡ take p.size (drop place new) =
-              subst (λ m. change (take m (drop place old)) ≡ take m (drop place new)) size (subst (λ m. change (take n (drop m old)) ≡ take n (drop m new)) at e) in
+          subst (λ m. change (take m (drop place old)) ≡ take m (drop place new)) size (subst (λ m. change (take n (drop m old)) ≡ take n (drop m new)) at e) in
           let here : (if bytes_eq p.name name then change else λ x. x) (take p.size (drop place old)) ≡ take p.size (drop place new) =
-              ap (λ t. (if t then change else λ x. x) (take p.size (drop place old))) c ∙ own in
+          ap (λ t. (if t then change else λ x. x) (take p.size (drop place old))) c ∙ own in
           let free : among name (map (λ p. p.name) (physical_at (place + p.size) parts old)) ≡ false =
-              ap (among name) (names-same (place + p.size) parts old) ∙ rest-unnamed p.name name (map (λ p. p.name) parts) d c in
+          ap (among name) (names-same (place + p.size) parts old) ∙ rest-unnamed p.name name (map (λ p. p.name) parts) d c in
           let far : b + n ≡ place + p.size = omega (arith, at, size) in
           let rest : physical_at (place + p.size) parts new ≡ map (physical_changed name change) (physical_at (place + p.size) parts old) =
-              physical-rest (place + p.size) parts new old (subst (λ m. drop m new ≡ drop m old) far w.rest)
-              ∙ sym (unnamed (λ p. p.name) (physical_changed name change) name (physical-keeps name change) (physical_at (place + p.size) parts old) free) in
+          physical-rest (place + p.size) parts new old (subst (λ m. drop m new ≡ drop m old) far w.rest)
+          ∙ sym (unnamed (λ p. p.name) (physical_changed name change) name (physical-keeps name change) (physical_at (place + p.size) parts old) free) in
           λ i. record { name = p.name; bytes = sym here i } ∷ rest i
       by false c k more =
           let low = (place-within (place + p.size) parts name b n k).0 in
           let own : take p.size (drop place new) ≡ take p.size (drop place old) = kept-outside old new b n place p.size w (inl low) in
           let here : take p.size (drop place new) ≡ (if bytes_eq p.name name then change else λ x. x) (take p.size (drop place old)) =
-              own ∙ sym (ap (λ t. (if t then change else λ x. x) (take p.size (drop place old))) c) in
+          own ∙ sym (ap (λ t. (if t then change else λ x. x) (take p.size (drop place old))) c) in
           let rest = more k in
           λ i. record { name = p.name; bytes = here i } ∷ rest i
 

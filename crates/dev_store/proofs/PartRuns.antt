@@ -35,7 +35,7 @@ run-rest units place zero first h e = ap (λ n. drop n units) {x = place} {y = p
 run-rest units place (suc count) first h e =
     let head : get_or units place 0 ≡ first = ap (λ n. get_or units n 0) {x = place} {y = place + 0} (omega arith) ∙ (e 0 (omega arith) ∙ omega arith) in
     let more = run-rest units (place + 1) count (first + 1) (omega arith)
-        (λ i l. ap (λ n. get_or units n 0) {x = place + 1 + i} {y = place + suc i} (omega arith) ∙ (e (suc i) (omega arith) ∙ omega arith)) in
+    (λ i l. ap (λ n. get_or units n 0) {x = place + 1 + i} {y = place + suc i} (omega arith) ∙ (e (suc i) (omega arith) ∙ omega arith)) in
     left-at units place 0 (omega arith)
     ∙ (ap (λ n. n ∷ drop (place + 1) units) head
     ∙ (ap (λ l. first ∷ l) more ∙ ap (λ n. first ∷ (range_with_len (first + 1) count ++ drop n units)) {x = place + 1 + count} {y = place + suc count} (omega arith)))
@@ -70,7 +70,7 @@ range-bytes s super first (suc count) =
     let at = first_unit s + first * s.unit in
     let far : first_unit s + (first + 1) * s.unit ≡ at + s.unit = omega arith in
     let rest = range-bytes s super (first + 1) count
-        ∙ (ap (λ n. take (count * s.unit) (drop n super)) far ∙ ap (take (count * s.unit)) (sym (drop-drop s.unit at super))) in
+    ∙ (ap (λ n. take (count * s.unit) (drop n super)) far ∙ ap (take (count * s.unit)) (sym (drop-drop s.unit at super))) in
     ap (λ l. unit_bytes s super first ++ l) rest
     ∙ (sym (take-add s.unit (count * s.unit) (drop at super)) ∙ ap (λ n. take n (drop at super)) {x = s.unit + count * s.unit} {y = suc count * s.unit} (omega arith))
 
@@ -128,26 +128,26 @@ run-written s units place count first off bytes old r h long all once fits =
     let after = drop (place + count) units in
     let split = run-split units place count first r in
     let kept : IsKeptBut s first count old new =
-        run-differs s first count off (length bytes) old new fits (differ-written old (first_unit s + (first * s.unit + off)) bytes (omega arith)) in
+    run-differs s first count off (length bytes) old new fits (differ-written old (first_unit s + (first * s.unit + off)) bytes (omega arith)) in
     let sum : (u : ℕ) → times_in u before + (times_in u own + times_in u after) ≤ 1 =
-        λ u. let a = once u in let e = ap (times_in u) split in let p = times_in-append u before (own ++ after) in let q = times_in-append u own after in omega arith in
+    λ u. let a = once u in let e = ap (times_in u) split in let p = times_in-append u before (own ++ after) in let q = times_in-append u own after in omega arith in
     let fore = units-kept s old new before (λ u k. kept u (let a = sum u in omega arith)) in
     let rear = units-kept s old new after (λ u k. kept u (let a = sum u in omega arith)) in
     let at : first_unit s + (first * s.unit + off) ≡ first_unit s + first * s.unit + off = omega arith in
     let mid : flat_map (unit_bytes s new) own ≡ written (flat_map (unit_bytes s old) own) off bytes =
-        range-bytes s new first count
-        ∙ (ap (λ n. take (count * s.unit) (drop (first_unit s + first * s.unit) (written old n bytes))) at
-        ∙ (range-written old (first_unit s + first * s.unit) (count * s.unit) off bytes fits (omega arith)
-        ∙ ap (λ l. written l off bytes) (sym (range-bytes s old first count)))) in
+    range-bytes s new first count
+    ∙ (ap (λ n. take (count * s.unit) (drop (first_unit s + first * s.unit) (written old n bytes))) at
+    ∙ (range-written old (first_unit s + first * s.unit) (count * s.unit) off bytes fits (omega arith)
+    ∙ ap (λ l. written l off bytes) (sym (range-bytes s old first count)))) in
     let cut : (file : List ℕ) → flat_map (unit_bytes s file) units ≡ flat_map (unit_bytes s file) before ++ (flat_map (unit_bytes s file) own ++ flat_map (unit_bytes s file) after) =
-        λ file. ap (flat_map (unit_bytes s file)) split
-        ∙ (flat_map-append (unit_bytes s file) before (own ++ after) ∙ ap (λ l. flat_map (unit_bytes s file) before ++ l) (flat_map-append (unit_bytes s file) own after)) in
+    λ file. ap (flat_map (unit_bytes s file)) split
+    ∙ (flat_map-append (unit_bytes s file) before (own ++ after) ∙ ap (λ l. flat_map (unit_bytes s file) before ++ l) (flat_map-append (unit_bytes s file) own after)) in
     let few : length before ≡ place = length-take-le place units (omega arith) in
     let front : length (flat_map (unit_bytes s old) before) ≡ place * s.unit =
-        units-long s old long h before (all-take (λ u. nat_lt u (unit_count s)) place units all) ∙ ap (λ n. n * s.unit) few in
+    units-long s old long h before (all-take (λ u. nat_lt u (unit_count s)) place units all) ∙ ap (λ n. n * s.unit) few in
     let drops = length-drop (first_unit s + first * s.unit) old in
     let room : length (flat_map (unit_bytes s old) own) ≡ count * s.unit =
-        ap length (range-bytes s old first count) ∙ length-take-le (count * s.unit) (drop (first_unit s + first * s.unit) old) (omega arith) in
+    ap length (range-bytes s old first count) ∙ length-take-le (count * s.unit) (drop (first_unit s + first * s.unit) old) (omega arith) in
     cut new
     ∙ ((λ i. fore i ++ (mid i ++ rear i))
     ∙ (sym (middle-written (flat_map (unit_bytes s old) before) (flat_map (unit_bytes s old) own) (flat_map (unit_bytes s old) after) bytes off (omega arith))

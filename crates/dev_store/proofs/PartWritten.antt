@@ -2,7 +2,6 @@
 use Rattle.std.proofs.Common.{◌≡◌, ◌∙◌, refl, ap, sym, subst, ℕ, ◌+◌, ◌*◌, ◌<◌, ◌≤◌, true, List, [], ◌++◌, find, length, take, drop, Option, Some, None, option_map, unwrap_or, arith}
 use Rattle.std.specs.Prelude.{IfSome, bytes_eq, slice_index}
 use Rattle.std.specs.List.{flat_map}
-use Rattle.std.proofs.lemmas.List.{length-replicate}
 use Rattle.fb_frame.specs.Told.{Both}
 use Rattle.fb_frame.specs.Bytes.{zeros}
 use Rattle.dev_model.specs.declared.device.Dev.{Dev}
@@ -24,9 +23,10 @@ use Rattle.dev_store.specs.SuperBounds.{IsBounded}
 use Rattle.dev_store.specs.Held.{zeroed, seen, file_or_zeros, device_held, IsKept, IsTabled}
 use Rattle.dev_store.specs.StoreCalls.{part_bytes, IsPartly, IsRangeRead}
 use Rattle.dev_store.specs.PartWrites.{physical_place, IsFrontKept, IsBodyChanged, IsPartWritten, IsLeftIn}
+use Rattle.dev_store.proofs.MadeText.{length-zeros}
 use Rattle.dev_store.proofs.OpenLemmas.{take-of}
 use Rattle.dev_store.proofs.OpenSuper.{both-then}
-use Rattle.dev_store.proofs.OpenWhole.{kept-valid}
+use Rattle.dev_store.proofs.OpenWhole.{file-long, kept-valid}
 use Rattle.dev_store.proofs.OpenZeros.{held-zeroed}
 use Rattle.dev_store.proofs.OwnedOnce.{found-times}
 use Rattle.dev_store.proofs.SuperRepairLemmas.{widen, differ-self}
@@ -40,18 +40,10 @@ use Rattle.dev_store.proofs.PartPhysical.{device-at, place-within, physical-chan
 use Rattle.dev_store.proofs.PartRuns.{IsRun, run-inside, run-differs}
 use Rattle.dev_store.proofs.PartLogical.{logical-changed, logical-is, partition-written, run-apart}
 
-zeros-long : (n : ℕ) → length (zeros n) ≡ n
-unfolding zeros
-zeros-long n = length-replicate n 0
-
 -- the device is that of the file, or of zeros
 held-at : (layout : LayoutValue) (state : State) (table : Option Content) (image : Option (List ℕ)) → device_held layout state table image ≡ device-at layout state table (file_or_zeros layout image)
 unfolding device_held
 held-at layout state table image = refl
-
-file-long : (layout : LayoutValue) (image : Option (List ℕ)) → IfSome image (λ file. length file ≡ image_size layout) → length (file_or_zeros layout image) ≡ image_size layout
-file-long layout None h = zeros-long (image_size layout)
-file-long layout (Some file) h = h
 
 -- what is kept of an image is so of each file of its length
 kept-over : (layout : LayoutValue) (state : State) (table : Option Content) (image : Option (List ℕ)) (file : List ℕ) → IsKept layout state table image → length file ≡ image_size layout → IsKept layout state table (Some file)
@@ -77,7 +69,7 @@ physical-range layout state table name b n at count place h e fits =
     let high = room.1 in
     let end : (file : List ℕ) → IsKept layout state table (Some file) → b + n ≤ length file = λ file k. let l = k.long in omega arith in
     let differs : (file bytes : List ℕ) → IsKept layout state table (Some file) → length bytes ≡ count → DifferWithin b n file (written file place bytes) =
-        λ file bytes k c. let l = end file k in widen place (length bytes) b n file (written file place bytes) (differ-written file place bytes (omega arith)) (omega arith) (omega arith) in
+    λ file bytes k c. let l = end file k in widen place (length bytes) b n file (written file place bytes) (differ-written file place bytes (omega arith)) (omega arith) (omega arith) in
     record {
       inside = λ file k. let l = range-long b n file (end file k) in let p = ap length (physical-is layout state table name b n file h) in omega arith;
       in_file = λ file k. let l = end file k in omega arith;
@@ -117,17 +109,17 @@ logical-range layout state s c name q k n first off at count place u e h r is fi
     let all = part-below s c q placed in
     let room = run-inside s (units_of s c q) k n first r some all in
     let few : (v : ℕ) → times_in v (units_of s c q) ≤ 1 =
-        λ v. let a = subst (λ o. times_in v (unwrap_or (option_map (units_of s c) o) []) ≤ times_in v (flat_map (units_of s c) c.partitions)) h (found-times (units_of s c) name v c.partitions) in
-        let b = times-once v (flat_map (units_of s c) c.partitions) u.good.different in
-        omega arith in
+    λ v. let a = subst (λ o. times_in v (unwrap_or (option_map (units_of s c) o) []) ≤ times_in v (flat_map (units_of s c) c.partitions)) h (found-times (units_of s c) name v c.partitions) in
+    let b = times-once v (flat_map (units_of s c) c.partitions) u.good.different in
+    omega arith in
     let super : (file bytes : List ℕ) → IsKept layout state (Some c) (Some file) → length bytes ≡ count → super_bytes layout s (written file place bytes) ≡ written (super_bytes layout s file) x bytes =
-        λ file bytes m z. let y = m.long in
-        ap (λ j. super_bytes layout s (written file j bytes)) p ∙ range-written file start s.size x bytes (omega arith) (omega arith) in
+    λ file bytes m z. let y = m.long in
+    ap (λ j. super_bytes layout s (written file j bytes)) p ∙ range-written file start s.size x bytes (omega arith) (omega arith) in
     let long : (file : List ℕ) → IsKept layout state (Some c) (Some file) → length (super_bytes layout s file) ≡ s.size = λ file m. let y = m.long in range-long start s.size file (omega arith) in
     let change : (file bytes : List ℕ) → IsKept layout state (Some c) (Some file) → length bytes ≡ count → DifferWithin x (length bytes) (super_bytes layout s file) (super_bytes layout s (written file place bytes)) =
-        λ file bytes m z. let y = long file m in subst (DifferWithin x (length bytes) (super_bytes layout s file)) (sym (super file bytes m z)) (differ-written (super_bytes layout s file) x bytes (omega arith)) in
+    λ file bytes m z. let y = long file m in subst (DifferWithin x (length bytes) (super_bytes layout s file)) (sym (super file bytes m z)) (differ-written (super_bytes layout s file) x bytes (omega arith)) in
     let before : (file bytes : List ℕ) → IsKept layout state (Some c) (Some file) → length bytes ≡ count → take start (written file place bytes) ≡ take start file =
-        λ file bytes m z. let y = m.long in take-of start place (written file place bytes) file (omega arith) (differ-written file place bytes (omega arith)).front in
+    λ file bytes m z. let y = m.long in take-of start place (written file place bytes) file (omega arith) (differ-written file place bytes (omega arith)).front in
     record {
       inside = λ file m.
           let a = ap length (logical-is layout state s c name q file (valid-at layout state (Some c) file m) e h) in
@@ -153,7 +145,7 @@ range-put : (layout : LayoutValue) (state : State) (table : Option Content) (nam
 unfolding seen
 range-put layout state table name at place bytes None None k r w =
     let file = zeros (image_size layout) in
-    let m = kept-over layout state table None file k (zeros-long (image_size layout)) in
+    let m = kept-over layout state table None file k (length-zeros (image_size layout)) in
     let is = held-at layout state table None in
     let same = put_zeroed name at bytes (device-at layout state table file) (valid-at layout state table file m) (r.inside file m) in
     record {
@@ -172,13 +164,12 @@ range-put layout state table name at place bytes (Some old) (Some new) k r w = r
 range-left : (layout : LayoutValue) (state : State) (table : Option Content) (name : List ℕ) (at count place : ℕ) (old new : Option (List ℕ)) → IsKept layout state table old →
     IsRangeOf layout state table name at count place → Both (DifferWithin place count) old new → IsLeftIn layout (device_held layout state table) (put_at name at) count old new
 range-left layout state table name at count place None None k r d =
-    let l = zeros-long count in
+    let l = length-zeros count in
     (zeros count, l, range-put layout state table name at place (zeros count) None None k (subst (λ n. IsRangeOf layout state table name at n place) (sym l) r) tt)
 range-left layout state table name at count place None (Some new) k r d = absurd d
 range-left layout state table name at count place (Some old) None k r d = absurd d
 range-left layout state table name at count place (Some old) (Some new) k r d =
-    let w = change-written old new place count d (r.in_file old k) in
-    (
+    let w = change-written old new place count d (r.in_file old k) in (
       copy new place count,
       w.0,
       range-put layout state table name at place (copy new place count) (Some old) (Some new) k (subst (λ n. IsRangeOf layout state table name at n place) (sym w.0) r) w.1,
@@ -194,7 +185,7 @@ range-read layout state table name at place bytes (Some file) k r h =
     let self = (change-written file file place (length bytes) (differ-self place (length bytes) file) (r.in_file file k)).1 in
     let same : written file place bytes ≡ file = ap (written file place) h ∙ sym self in
     let own : part_bytes name dev ≡ written (part_bytes name dev) at bytes =
-        ap (part_bytes name) (ap (device-at layout state table) (sym same) ∙ r.puts file bytes k refl) ∙ part-put name at bytes dev inside in
+    ap (part_bytes name) (ap (device-at layout state table) (sym same) ∙ r.puts file bytes k refl) ∙ part-put name at bytes dev inside in
     sym (ap (λ d. take (length bytes) (drop at (part_bytes name d))) (held-at layout state table (Some file))
     ∙ (ap (λ l. take (length bytes) (drop at l)) own ∙ read-written (part_bytes name dev) at bytes inside))
 
