@@ -3,6 +3,8 @@ use Rattle.std.proofs.Common.{◌≡◌, ◌∙◌, ap, sym, ℕ, zero, suc, ◌
 use Rattle.std.specs.Prelude.{◌/◌, ◌%◌}
 use Rattle.std.proofs.Math.Seq.{take-add}
 use Rattle.std.proofs.lemmas.List.{take_at, drop-drop}
+use Rattle.fb_frame.specs.Told.{Both}
+use Rattle.dev_disk.specs.Files.{Tears, DifferWithin, IsTornAt}
 use Rattle.dev_model.specs.declared.device.Dev.{Dev}
 use Rattle.dev_model.specs.Images.{copies}
 use Rattle.super_meta.specs.Contents.{Content}
@@ -44,6 +46,13 @@ reads_then (Some file) part at xs ys h k =
     ∙ (take-add (length xs) (length ys) (drop at part)
     ∙ (ap (λ l. take (length xs) (drop at part) ++ take (length ys) l) (drop-drop (length xs) at part)
     ∙ (ap (λ l. l ++ take (length ys) (drop (at + length xs) part)) (sym h) ∙ ap (λ l. xs ++ l) (sym k)))))
+
+-- a failed write changes its range alone
+pub torn_differs : (torn : Tears) (place : ℕ) (bytes : List ℕ) (old new : Option (List ℕ)) → Both (IsTornAt torn place bytes) old new → Both (DifferWithin place (length bytes)) old new
+torn_differs torn place bytes None None h = tt
+torn_differs torn place bytes None (Some new) h = absurd h
+torn_differs torn place bytes (Some old) None h = absurd h
+torn_differs torn place bytes (Some old) (Some new) h = h.differs
 
 -- a range lies in a wider one
 pub partly_wider : (name : List ℕ) (at count low wide : ℕ) (dev t : Dev) → low ≤ at → at + count ≤ low + wide → IsPartly name at count dev t → IsPartly name low wide dev t

@@ -23,6 +23,7 @@ use Rattle.dev_store.specs.Stand.{physical_at, super_bytes, super_value, device_
 use Rattle.dev_store.specs.Held.{super_by}
 use Rattle.dev_store.specs.StoreCalls.{part_bytes}
 use Rattle.dev_store.proofs.OpenLemmas.{physical-front}
+use Rattle.dev_store.proofs.NamedLemmas.{find-told}
 use Rattle.dev_store.proofs.OwnedOnce.{found-times}
 use Rattle.dev_store.proofs.ValidSuper.{AreUnits, units-long, part-holds}
 use Rattle.dev_store.proofs.ValidUnits.{times-once}
@@ -119,16 +120,6 @@ logical-changed layout state s c name change q old new v e good h front kept own
     λ i. device_with layout state ((parts ∙ sym same) i) (super i)
 
 -- the bytes of the partition
-found-told : (s : SuperPart) (c : Content) (super name : List ℕ) (q : Partition) (ps : List Partition) → find (λ p. bytes_eq p.name name) ps ≡ Some q →
-    find (λ p. bytes_eq p.name name) (map (logical_at s c super) ps) ≡ Some (logical_at s c super q)
-found-told s c super name q [] h = absurd cc
-found-told s c super name q (p ∷ ps) h = by (bytes_eq p.name name) (found-told s c super name q ps) h where
-  by : (b : Bool) → (find (λ p. bytes_eq p.name name) ps ≡ Some q → find (λ p. bytes_eq p.name name) (map (logical_at s c super) ps) ≡ Some (logical_at s c super q)) →
-      (if b then Some p else find (λ p. bytes_eq p.name name) ps) ≡ Some q →
-      (if b then Some (logical_at s c super p) else find (λ p. bytes_eq p.name name) (map (logical_at s c super) ps)) ≡ Some (logical_at s c super q)
-  by true more k = ap (option_map (logical_at s c super)) k
-  by false more k = more k
-
 unfound : {X : Type 0} (nm : X → List ℕ) (name : List ℕ) (xs : List X) → among name (map nm xs) ≡ false → find (λ x. bytes_eq (nm x) name) xs ≡ None
 unfound nm name [] h = refl
 unfound nm name (x ∷ xs) h = by (bytes_eq (nm x) name) (unfound nm name xs) h where
@@ -146,7 +137,7 @@ logical-is layout state s c name q file v e h =
     let there : among name ls ≡ true = ap (among name) named ∙ found-some (λ p. p.name) name c.partitions q h in
     let apart : among name ps ≡ false = not-among (among name ps) (λ m. distinct-apart ps ls (names-apart dev v) name (any-mem name ps m) (any-mem name ls there)) in
     let found : find (λ p. bytes_eq p.name name) dev.logical ≡ Some (logical_at s c (super_bytes layout s file) q) =
-    ap (find (λ p. bytes_eq p.name name)) (logical-in layout layout.super_part s c file e) ∙ found-told s c (super_bytes layout s file) name q c.partitions h in
+    ap (find (λ p. bytes_eq p.name name)) (logical-in layout layout.super_part s c file e) ∙ find-told name (λ p. p.name) (λ p. p.name) (logical_at s c (super_bytes layout s file)) (λ p. refl) c.partitions ∙ ap (option_map (logical_at s c (super_bytes layout s file))) h in
     ap (λ o. unwrap_or (option_or (option_map (λ p. p.bytes) o) (option_map (λ p. p.bytes) (find (λ p. bytes_eq p.name name) dev.logical))) []) (unfound (λ p. p.name) name dev.physical apart)
     ∙ ap (λ o. unwrap_or (option_map (λ p. p.bytes) o) []) found
 
