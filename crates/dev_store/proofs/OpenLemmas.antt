@@ -191,7 +191,7 @@ front-alike layout file now long front f = record {
   long = ap (λ n. n == image_size layout) long ∙ f.long;
 }
 
-owned-laid : (layout : LayoutValue) (file name : List ℕ) → layout_in file ≡ Some layout → owned file name ≡ owned_by layout layout.super_part file name
+pub owned-laid : (layout : LayoutValue) (file name : List ℕ) → layout_in file ≡ Some layout → owned file name ≡ owned_by layout layout.super_part file name
 unfolding owned
 owned-laid layout file name h = ap (λ l. owned_of l file name) h
 

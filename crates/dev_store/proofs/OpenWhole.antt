@@ -73,7 +73,7 @@ pub kept-valid : (layout : LayoutValue) (state : State) (table : Option Content)
 unfolding device_held
 kept-valid layout state table o k = tabled-valid layout state layout.super_part table (file_or_zeros layout o) refl k.laid k.stated k.tabled (file-long layout o k.long)
 
-starts-self : (userspace : Bool) → Starts (start_mode userspace) (start_mode userspace)
+pub starts-self : (userspace : Bool) → Starts (start_mode userspace) (start_mode userspace)
 starts-self true = refl
 starts-self false = refl
 

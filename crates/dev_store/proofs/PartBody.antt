@@ -74,7 +74,7 @@ alike-kept layout (Some s) old new g f h =
       copies = λ k l. copy-kept s k _ _ b l f ∙ h.copies k l;
     }
 
-same-laid : (a b : LayoutValue) (o : Option LayoutValue) → o ≡ Some a → o ≡ Some b → a ≡ b
+pub same-laid : (a b : LayoutValue) (o : Option LayoutValue) → o ≡ Some a → o ≡ Some b → a ≡ b
 same-laid a b None h k = absurd cc
 same-laid a b (Some c) h k = cc
 

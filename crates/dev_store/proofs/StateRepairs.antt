@@ -63,7 +63,7 @@ pub record IsBlock (slots : ℕ) (state : State) (block : List ℕ) : Type 0 whe
   pub whole : block ≡ record_block 2 state
   pub long : length block ≡ 4096
 
-reads-block : (slots : ℕ) (state : State) (block : List ℕ) → IsBlock slots state block → record_of slots block ≡ Some (2, state)
+pub reads-block : (slots : ℕ) (state : State) (block : List ℕ) → IsBlock slots state block → record_of slots block ≡ Some (2, state)
 reads-block slots state block b = ap (record_of slots) b.whole ∙ record_again slots state b.fits
 
 differ-same : (at count : ℕ) (file : List ℕ) → DifferWithin at count file file
@@ -82,7 +82,7 @@ pub record IsOneLeft (which : Bool) (slots : ℕ) (state : State) (old new : Lis
   pub there : state_copy (not which) new ≡ state_copy (not which) old
 
 -- what changed in one record lies in both
-widened : (which : Bool) (old new : List ℕ) → DifferWithin (copy_place state_places which) 4096 old new → DifferWithin 4096 8192 old new
+pub widened : (which : Bool) (old new : List ℕ) → DifferWithin (copy_place state_places which) 4096 old new → DifferWithin 4096 8192 old new
 widened false old new d = record {
   same_length = d.same_length;
   front = d.front;
@@ -250,7 +250,7 @@ state-left which slots state block twin P old new b same f p w honest =
     (λ x y h e. f x y h (one-left new.torn which slots state block x y b honest (subst (λ t. IsLeftAt new.torn (copy_place t which) block x y) same e)))
     p w.left
 
-either-call : {T E A B P : Type 0} (r : Result T E) → (A → P) → (B → P) → OnOk r A → OnErr r B → P
+pub either-call : {T E A B P : Type 0} (r : Result T E) → (A → P) → (B → P) → OnOk r A → OnErr r B → P
 either-call (Ok x) f g a b = f a
 either-call (Err e) f g a b = g b
 
@@ -272,7 +272,7 @@ state-within which slots state block twin old new r b same range w v =
     w v
 
 -- two changes of the records
-within-then : (a b c : List ℕ) → DifferWithin 4096 8192 a b → DifferWithin 4096 8192 b c → DifferWithin 4096 8192 a c
+pub within-then : (a b c : List ℕ) → DifferWithin 4096 8192 a b → DifferWithin 4096 8192 b c → DifferWithin 4096 8192 a c
 within-then a b c h k = record { same_length = k.same_length ∙ h.same_length; front = k.front ∙ h.front; rest = k.rest ∙ h.rest }
 
 pub withins : (a b c : Option (List ℕ)) → Both (DifferWithin 4096 8192) a b → Both (DifferWithin 4096 8192) b c → Both (DifferWithin 4096 8192) a c

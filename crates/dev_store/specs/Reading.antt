@@ -1,5 +1,5 @@
 -- What opening reads of a device image, and what its repairs make of it or leave.
-use Rattle.std.specs.Prelude.{◌≡◌, ℕ, true, false, not, List, [], length, Option, Some, None}
+use Rattle.std.specs.Prelude.{◌≡◌, ◌⊎◌, ℕ, Bool, true, false, not, List, [], length, Option, Some, None}
 use Rattle.std.specs.Prelude.{take, IsSome, IfSome, option_map, if◌then◌else◌, IsTrue, nat_le, ◌==◌}
 use Rattle.super_meta.specs.Contents.{Content, content}
 use Rattle.dev_model.specs.Validity.{IsValid}
@@ -52,6 +52,12 @@ pub record AreStatesMended (slots : ℕ) (state : State) (file : List ℕ) : Typ
 pub record IsStateLeft (slots : ℕ) (state : State) (file : List ℕ) : Type 0 where
   pub version : ℕ
   pub reads : record_in slots file ≡ Some (version, state)
+
+-- where both records agreed, their state is read still, or the one that was being written
+abbrev pub IsStateAround : ℕ → State → List ℕ → List ℕ → Type 0
+IsStateAround slots state old new = (was : ℕ × State) →
+    record_of slots (state_copy false old) ≡ Some was → record_of slots (state_copy true old) ≡ Some was →
+    (record_in slots new ≡ Some was) ⊎ (record_in slots new ≡ Some (2, state))
 
 -- the file has a layout, and is as long as it says
 pub record IsFront (layout : LayoutValue) (file : List ℕ) : Type 0 where
@@ -134,15 +140,19 @@ abbrev pub owned_within : Option SuperPart → Option SuperRead → List ℕ →
 owned_within (Some s) (Some w) name = owned_in s (Some (content w.table)) name
 owned_within part within name = []
 
+-- the store of a disk, a layout, a state and what stands in super
+abbrev pub held_by : {K : Type 0} → (K → DiskTold) → K → LayoutValue → State → Option SuperRead → Bool → Held K
+held_by told disk layout state within broken = record {
+  disk = disk;
+  device = device_held layout state (table_within within) (open_bytes (told disk));
+  owning = option_map (λ w. w.owners) within;
+  parts = parts_within within;
+  broken = broken;
+}
+
 -- the store that opening makes of it
 abbrev pub held_of : {K : Type 0} → (K → DiskTold) → K → ImageRead → Held K
-held_of told disk r = record {
-  disk = disk;
-  device = device_held r.layout r.found.state (table_within r.within) (open_bytes (told disk));
-  owning = option_map (λ w. w.owners) r.within;
-  parts = parts_within r.within;
-  broken = false;
-}
+held_of told disk r = held_by told disk r.layout r.found.state r.within false
 
 -- What holds of a store at all times. A broken one has a device that there can be, field by field as any
 -- store: what its image stands for is said by the call that broke it.

@@ -27,6 +27,7 @@ mod owners;
 mod reads;
 mod record;
 pub mod state;
+mod state_write;
 mod states_read;
 pub mod store;
 mod super_read;

@@ -29,7 +29,7 @@ pub struct StateRead {
 }
 
 /// Where the two state records of an image lie.
-fn states() -> Twin
+pub fn states() -> Twin
     ensures { result ≡ state_places }
 {
     Twin {

@@ -28,28 +28,15 @@ pub struct Store<K: Disk> {
 }
 
 impl<K: Disk> Model for Store<K> {
-    ghost use Rattle.std.specs.Prelude.{option_map};
-    ghost use Rattle.dev_disk.specs.Disks.{open_bytes};
-    ghost use Rattle.dev_store.specs.Held.{Held, device_held};
-    ghost use Rattle.dev_store.specs.Reading.{IsStored, table_within, parts_within};
+    ghost use Rattle.dev_store.specs.Held.{Held};
+    ghost use Rattle.dev_store.specs.Reading.{IsStored, held_by};
 
     ghost Value = { Held K };
 
-    ghost view = { λ s. record {
-      disk = s.disk;
-      device = device_held s.layout s.state (table_within s.within) (open_bytes (K.told s.disk));
-      owning = option_map (λ w. w.owners) s.within;
-      parts = parts_within s.within;
-      broken = s.broken;
-    } };
+    ghost view = { λ s. held_by K.told s.disk s.layout s.state s.within s.broken };
 
-    ghost invariant = { λ s. IsStored K.told (record {
-      disk = s.disk;
-      device = device_held s.layout s.state (table_within s.within) (open_bytes (K.told s.disk));
-      owning = option_map (λ w. w.owners) s.within;
-      parts = parts_within s.within;
-      broken = s.broken;
-    }) s.layout s.state s.within s.buffer.items };
+    ghost invariant = { λ s. IsStored K.told (held_by K.told s.disk s.layout s.state s.within s.broken)
+        s.layout s.state s.within s.buffer.items };
 }
 
 impl<K: Disk> Store<K> {
