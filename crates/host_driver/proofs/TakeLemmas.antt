@@ -1,7 +1,9 @@
 -- A step's command over a connection: what its answers come to.
-use Rattle.std.proofs.Common.{◌≡◌, ◌⊎◌, inl, inr, ℕ, ◌+◌, true, false, Option, Some, None, List, [], ◌∷◌, ◌++◌, length, take, refl, sym, ap, ◌∙◌, subst, arith, length-append, append_assoc, append-nil}
-use Rattle.std.specs.Prelude.{codes, unwrap_or}
+use Rattle.std.proofs.Common.{◌≡◌, ◌⊎◌, ◌≢◌, inl, inr, ℕ, ◌+◌, ◌^◌, ◌<◌, Bool, true, false, Option, Some, None, List, [], ◌∷◌, ◌++◌, length, take, refl, sym, ap, ◌∙◌, subst, arith, length-append, append_assoc, append-nil}
+use Rattle.std.specs.Prelude.{IsTrue, codes, unwrap_or, is_some, ◌&&◌, nat_lt, decimal}
 use Rattle.std.specs.List.{list_all}
+use Rattle.std.proofs.lemmas.Bool.Decides.{nat_tests}
+use Rattle.fb_frame.specs.NameText.{is_name, IsName}
 use Rattle.std.proofs.lemmas.Grind.{flat_map-append}
 use Rattle.fb_frame.specs.Causes.{Rose}
 use Rattle.fb_frame.specs.Framing.{frame, head}
@@ -9,7 +11,10 @@ use Rattle.fb_frame.specs.Greeting.{handshake}
 use Rattle.fb_frame.specs.Sinks.{Grew, GrewPart}
 use Rattle.fb_message.specs.declared.reply.Reply.{Reply}
 use Rattle.fb_message.specs.declared.reply.Reply.TheVariants.{Okay, Fail}
-use Rattle.fb_message.specs.CommandText.{CommandValue, spelling}
+use Rattle.fb_message.specs.declared.command.BootTarget.{BootTarget}
+use Rattle.fb_message.specs.declared.command.BootTarget.TheVariants.{System, Bootloader, Fastboot, Recovery}
+use Rattle.fb_message.specs.CommandText.{CommandValue, Reboot, Flash, Erase, UpdateSuper, Resize, spelling}
+use Rattle.fb_message.specs.Prefixes.{only_if}
 use Rattle.fb_message.specs.ReplyText.{reply_bytes}
 use Rattle.fb_message.proofs.Commands.{command_again}
 use Rattle.dev_model.specs.declared.device.Dev.{Dev}
@@ -18,20 +23,21 @@ use Rattle.dev_model.specs.declared.step.Step.{Step}
 use Rattle.dev_model.specs.Attempts.{is_halted}
 use Rattle.dev_model.specs.Partitions.{is_fastboot}
 use Rattle.dev_model.specs.Refusals.{refusal_of}
+use Rattle.dev_model.proofs.Valid.{both}
 use Rattle.dev_model.specs.Steps.{apply, is_boot}
 use Rattle.wire_model.specs.Says.{Loaded, says, decides}
 use Rattle.wire_model.specs.Wire.{Wire}
 use Rattle.wire_told.specs.Answered.{IsAnswered, Sound, reply_frames, is_line}
-use Rattle.wire_told.specs.Exchanges.{IsExchanged, IsInterrupted, Exchanged}
+use Rattle.wire_told.specs.Exchanges.{said_to, IsExchanged, IsInterrupted, Exchanged}
 use Rattle.wire_told.specs.Peers.{Peer, Apart, Joined, OfLink, OnLink, OffLink}
 use Rattle.wire_told.specs.Places.{Appended}
 use Rattle.wire_told.specs.Ports.{PortTold, Kept, Drops}
 use Rattle.wire_told.proofs.ExchangeLemmas.{said-open}
-use Rattle.wire_told.proofs.Lifted.{of-both, of-on, on-hung, with-on}
+use Rattle.wire_told.proofs.Lifted.{of-of, of-both, of-on, on-hung, with-on}
 use Rattle.wire_told.proofs.OneFrames.{length-frame}
 use Rattle.wire_told.proofs.PortLemmas.{Kept-trans}
-use Rattle.fb_link.specs.Broken.{BrokeOff, ShownInPart}
-use Rattle.fb_link.specs.Concluded.{Concluded, IsCutOff, IsUndue}
+use Rattle.fb_link.specs.Broken.{BrokeOff, ShownInPart, SaysFirst}
+use Rattle.fb_link.specs.Concluded.{Concluded, IsCutOff, IsUndue, LogsWhole}
 use Rattle.fb_link.specs.Errors.{Why}
 use Rattle.fb_link.specs.Lines.{shown_lines}
 use Rattle.fb_link.specs.Seen.{Seen, seen}
@@ -43,10 +49,10 @@ use Rattle.host_driver.specs.declared.drive.DriveError.{DriveError}
 use Rattle.host_driver.specs.declared.drive.DriveError.TheVariants as stop
 use Rattle.host_driver.specs.Commands.{TookStep, RefusedStep, IsCommandOf}
 use Rattle.host_driver.specs.Driving.{Grows}
-use Rattle.host_driver.specs.HeardLast.{HeardThen, HeardAt}
+use Rattle.host_driver.specs.HeardLast.{HeardThen, HeardAt, LogEnds}
 use Rattle.host_driver.specs.Jobs.{OfTold}
-use Rattle.host_driver.specs.Stepping.{IsServing, Serving, IsCommandAt, stop_of, IsStepped, IsBrokenIn, WhyStopped, IsStuck, EndsLog, IsStopped}
-use Rattle.host_driver.specs.Wires.{command_wire}
+use Rattle.host_driver.specs.Stepping.{IsServing, Serving, IsCommandAt, stop_of, IsStepped, IsBrokenIn, WhyStopped, IsStuck, NoFiles, IsStopped}
+use Rattle.host_driver.specs.Wires.{command_wire, LogGrew}
 use Rattle.host_driver.proofs.HaltLemmas.{DecidedBy, command-decides, left-same, left-took}
 use Rattle.host_driver.proofs.StepLemmas.{decides-okay, decides-fail, took}
 
@@ -145,7 +151,13 @@ heard-again a b rs h f = heard-more a b rs [] h (subst (Appended a b) (sym (appe
 wire-is : (c : CommandValue) (p : List ℕ) → spelling c ≡ Some p → frame p ≡ command_wire c
 wire-is c p e = ap (λ o. frame (unwrap_or o [])) (sym e)
 
-pub stepped-okay : (c : CommandValue) (s : Step) (a b : Seen) (line : List ℕ) → IsCommandAt c s a.port.peer → Serving 4104 a.port.peer → Concluded c a b (Okay line) → Kept a.port b.port → IsStepped c s a b
+logged : (c : CommandValue) (a b : Option (List ℕ)) (p : List ℕ) → spelling c ≡ Some p → Appended a b (frame p) → LogGrew a b (λ bytes. bytes ≡ command_wire c)
+logged c None None p e f = tt
+logged c None (Some b) p e f = f
+logged c (Some a) None p e f = f
+logged c (Some a) (Some b) p e f = (frame p, f, wire-is c p e)
+
+pub stepped-okay : (c : CommandValue) (s : Step) (a b : Seen) (line : List ℕ) → IsCommandAt c s a.port.peer → Serving 4104 a.port.peer → Concluded c a b (Okay line) → Kept a.port b.port → IsStepped 4104 (λ bytes. bytes ≡ command_wire c) s a b
 stepped-okay c s a b line at f k kept =
     let broke = Rose a.port.faults b.port.faults in
     let d = decides-at c s 4104 a.port.peer at f in
@@ -158,7 +170,7 @@ stepped-okay c s a b line at f k kept =
       quiet = told-on (λ x y. Grew a.text b.text []) a.port.peer b.port.peer (quiet-told c s a b (Okay line) d k);
       grows = record { more = shown_lines k.infos; grew = k.shown };
       heard = λ h. heard-again a.port.heard b.port.heard (k.infos ++ Okay line ∷ []) h k.bytes;
-      log = subst (Appended a.port.log b.port.log) (wire-is c k.payload k.spelled) k.log;
+      log = logged c a.port.log b.port.log k.payload k.spelled k.log;
       kept = kept;
     }
 
@@ -183,17 +195,8 @@ stuck-so broke more later c s text w u d (inl x) =
 stuck-so broke more later c s text w u d (inr x) =
     inr (later x.0, fail-told text (codes "disk fault") x.1.told, (d.0.halted u.device x.1.halts).1)
 
--- two facts of one connection
-both-on : (R S T : Wire → Wire → Type 0) → ((w u : Wire) → R w u → S w u → T w u) → (a b : Option Peer) → OnLink R a b → OnLink S a b → OnLink T a b
-both-on R S T f None None r s = tt
-both-on R S T f None (Some q) r s = absurd r
-both-on R S T f (Some (Apart dev)) b r s = absurd r
-both-on R S T f (Some (Joined w)) None r s = absurd r
-both-on R S T f (Some (Joined w)) (Some (Apart dev)) r s = absurd r
-both-on R S T f (Some (Joined w)) (Some (Joined u)) r s = f w u r s
-
 pub stopped-fail : (c : CommandValue) (s : Step) (a b : Seen) (d : PortTold) (text : List ℕ) → IsCommandAt c s a.port.peer → Serving 4104 a.port.peer → Concluded c a b (Fail text) → Kept a.port b.port → Drops b.port d → Sound d.peer →
-    IsStopped c s a (seen d b.text) (stop.Refused text)
+    IsStopped NoFiles s a (seen d b.text) (stop.Refused text)
 stopped-fail c s a b d text at f k kept drops sound =
     let broke = Rose a.port.faults b.port.faults in
     let more = Rose a.port.faults d.faults in
@@ -202,14 +205,15 @@ stopped-fail c s a b d text at f k kept drops sound =
     let x = Exchanged-concluded c a b (Fail text) k in
     let broken = with-on (Decides c s) (IsExchanged broke c (Fail text)) (λ w u. IsBrokenIn s more w.device u.device) (broken-fail broke more later c s text) a.port.peer b.port.peer q x in
     let stuck = with-on (Decides c s) (IsExchanged broke c (Fail text)) (λ w u. Stuck s text more w.device u.device) (stuck-so broke more later c s text) a.port.peer b.port.peer q x in
-    let both = both-on (λ w u. Stuck s text more w.device u.device) (λ w u. Grew a.text b.text []) (λ w u. Stuck s text more w.device u.device × Grew a.text b.text []) (λ w u p r. (p, r)) a.port.peer b.port.peer stuck (quiet-told c s a b (Fail text) q k) in
     record {
       why = tt;
       left = told-off (IsBrokenIn s more) a.port.peer d.peer (on-hung (λ w u. IsBrokenIn s more w.device u.device) (λ w dev. IsBrokenIn s more w.device dev) (λ w u r. r) a.port.peer b.port.peer d.peer broken drops.left);
-      stuck = told-off (λ x y. Stuck s text more x y × Grew a.text b.text []) a.port.peer d.peer
-          (on-hung (λ w u. Stuck s text more w.device u.device × Grew a.text b.text []) (λ w dev. Stuck s text more w.device dev × Grew a.text b.text []) (λ w u r. r) a.port.peer b.port.peer d.peer both drops.left);
+      stuck = told-off (Stuck s text more) a.port.peer d.peer
+          (on-hung (λ w u. Stuck s text more w.device u.device) (λ w dev. Stuck s text more w.device dev) (λ w u r. r) a.port.peer b.port.peer d.peer stuck drops.left);
+      quiet = told-off (λ x y. Grew a.text b.text []) a.port.peer d.peer
+          (on-hung (λ w u. Grew a.text b.text []) (λ w dev. Grew a.text b.text []) (λ w u r. r) a.port.peer b.port.peer d.peer (quiet-told c s a b (Fail text) q k) drops.left);
       grows = record { more = shown_lines k.infos; grew = k.shown };
-      heard = λ h l. subst (λ o. HeardThen o (frame (reply_bytes (Fail text)))) (sym drops.heard)
+      heard = λ h. subst (λ o. HeardThen o (frame (reply_bytes (Fail text)))) (sym drops.heard)
           (heard-more a.port.heard b.port.heard k.infos (frame (reply_bytes (Fail text))) h (subst (Appended a.port.heard b.port.heard) (sym (frames-snoc k.infos (Fail text))) k.bytes));
       down = drops.down;
       sound = sound;
@@ -236,7 +240,34 @@ cut-told c s a b at f x =
     told-off (IsBrokenIn s (Rose a.faults b.faults)) a.peer b.peer
     (with-off (Decides c s) (IsInterrupted (Rose a.faults b.faults) c) (λ w dev. IsBrokenIn s (Rose a.faults b.faults) w.device dev) (broken-cut (Rose a.faults b.faults) c s) a.peer b.peer (decides-at c s 4104 a.peer at f) x)
 
-why-broken : (c : CommandValue) (e : LinkError) (a b : PortTold) → Why (IsUndue c) e a b → WhyStopped a b (stop_of e)
+-- Over a told device the lines that were heard are the first that it says, and to a step's command it says none.
+no-lines : (infos more : List Reply) (one : Reply) → list_all is_line infos ≡ true → is_line one ≡ false → one ∷ [] ≡ infos ++ more → infos ≡ []
+no-lines [] more one l n e = refl
+no-lines (i ∷ infos) more one l n e =
+    let first : one ≡ i = cc in
+    let line : is_line i ≡ true = (both (is_line i) (list_all is_line infos) l).0 in
+    absurd (let f : is_line i ≡ false = subst (λ r. is_line r ≡ false) first n in cc)
+
+decided-none : (o : Option (List ℕ)) (change : Dev → Dev) (dev : Dev) (loaded : Loaded) (infos more : List Reply) → list_all is_line infos ≡ true → (decides o change dev loaded).replies ≡ infos ++ more → infos ≡ []
+decided-none None change dev loaded infos more l e = no-lines infos more (Okay []) l refl e
+decided-none (Some text) change dev loaded infos more l e = no-lines infos more (Fail text) l refl e
+
+says-none : (c : CommandValue) (s : Step) (infos : List Reply) → list_all is_line infos ≡ true → (a : Option Peer) → OfLink (Decides c s) a → SaysFirst c a infos → OfLink (λ w. infos ≡ []) a
+says-none c s infos l a d f =
+    of-both (Decides c s) (λ w. (more : List Reply) × ((said_to c w).replies ≡ infos ++ more)) (λ w. infos ≡ [])
+    (λ w p q. decided-none (refusal_of s w.device) (apply s) w.device w.loaded infos q.0 l (sym p.0.replies ∙ q.1)) a d f
+
+quiet-cut : (c : CommandValue) (a b : PortTold) (Q : Type 0) → Exchanged c a b None → OfLink (λ w. Q) a.peer → OfTold a.peer b.peer (λ s t. Q)
+quiet-cut c a b Q x q =
+    told-off (λ s t. Q) a.peer b.peer (with-off (λ w. Q) (IsInterrupted (Rose a.faults b.faults) c) (λ w dev. Q) (λ w dev p r. p) a.peer b.peer q x)
+
+part-none : (infos : List Reply) (a b : Option (List ℕ)) → GrewPart a b (shown_lines infos) → infos ≡ [] → Grew a b []
+part-none infos None None g e = tt
+part-none infos None (Some b) g e = g
+part-none infos (Some a) None g e = g
+part-none infos (Some a) (Some b) g e = absurd (let short = g.fewer in omega (arith, short, ap (λ x. length (shown_lines x)) e))
+
+why-broken : (c : CommandValue) (e : LinkError) (a b : PortTold) → Why (IsUndue c) e a b → WhyStopped NoFiles a b (stop_of e)
 why-broken c link.Link a b w = w
 why-broken c link.Ended a b w = w
 why-broken c (link.BadHandshake four) a b w = absurd w
@@ -244,7 +275,7 @@ why-broken c (link.BadLength n) a b w = w.0
 why-broken c (link.BadReply reply) a b w = w.0
 why-broken c link.TooManyInfos a b w = w
 
-unstuck : (s : Step) (a b : Seen) (e : LinkError) → IsStuck s a b (stop_of e)
+unstuck : (s : Step) (a b : PortTold) (e : LinkError) → IsStuck s a b (stop_of e)
 unstuck s a b link.Link = tt
 unstuck s a b link.Ended = tt
 unstuck s a b (link.BadHandshake four) = tt
@@ -252,23 +283,34 @@ unstuck s a b (link.BadLength n) = tt
 unstuck s a b (link.BadReply reply) = tt
 unstuck s a b link.TooManyInfos = tt
 
-heard-broken : (c : CommandValue) (e : LinkError) (a b : Seen) → BrokeOff 0 a b e → Why (IsUndue c) e a.port b.port → HeardThen a.port.heard [] → EndsLog c b.port (stop_of e) → HeardAt b.port (stop_of e)
-heard-broken c link.Link a b k w h l = tt
-heard-broken c link.Ended a b k w h l = tt
-heard-broken c (link.BadHandshake four) a b k w h l = absurd w
-heard-broken c (link.BadLength n) a b k w h l = inr (inl (record {
+some-of : {X : Type 0} (o : Option X) → is_some o ≡ true → (x : X) × (o ≡ Some x)
+some-of None e = absurd cc
+some-of (Some x) e = (x, refl)
+
+undue-log : (c : CommandValue) (a b : Option (List ℕ)) (p : List ℕ) → spelling c ≡ Some p → Appended a b (frame p) → LogEnds b c
+undue-log c None None p e f = (p, e, tt)
+undue-log c None (Some b) p e f = absurd f
+undue-log c (Some a) None p e f = absurd f
+undue-log c (Some a) (Some b) p e f = (p, e, (a, f))
+
+heard-broken : (c : CommandValue) (p : List ℕ) (e : LinkError) (a b : Seen) → BrokeOff (SaysFirst c a.port.peer) 0 a b e → Why (IsUndue c) e a.port b.port → (e ≢ link.Link → LogsWhole c a.port b.port) → spelling c ≡ Some p → HeardThen a.port.heard [] → HeardAt b.port (stop_of e)
+unfolding LogsWhole
+heard-broken c p link.Link a b k w l spelled h = tt
+heard-broken c p link.Ended a b k w l spelled h = tt
+heard-broken c p (link.BadHandshake four) a b k w l spelled h = absurd w
+heard-broken c p (link.BadLength n) a b k w l spelled h = inr (inl (record {
   n = n;
   wrong = w.1;
   bytes = refl;
   heard = heard-more a.port.heard b.port.heard k.infos (head n) h (subst (λ r. Appended a.port.heard b.port.heard (reply_frames k.infos ++ r)) k.stands.1 k.bytes);
 }))
-heard-broken c (link.BadReply reply) a b k w h l = inr (inr (inl (record {
+heard-broken c p (link.BadReply reply) a b k w l spelled h = inr (inr (inl (record {
   command = c;
-  sent = l;
+  sent = undue-log c a.port.log b.port.log p spelled (l (λ e. cc) p spelled);
   undue = w.1;
   heard = heard-more a.port.heard b.port.heard k.infos (frame reply) h (subst (λ r. Appended a.port.heard b.port.heard (reply_frames k.infos ++ r)) k.stands.3 k.bytes);
 })))
-heard-broken c link.TooManyInfos a b k w h l =
+heard-broken c p link.TooManyInfos a b k w l spelled h =
     let same : k.infos ++ [] ≡ k.infos = append-nil k.infos in
     record {
       first = k.infos;
@@ -279,18 +321,23 @@ heard-broken c link.TooManyInfos a b k w h l =
           (subst (Appended a.port.heard b.port.heard) (sym (ap reply_frames same ∙ (sym (append-nil (reply_frames k.infos)) ∙ ap (λ r. reply_frames k.infos ++ r) (sym k.stands.1)))) k.bytes));
     }
 
-pub stopped-broken : (c : CommandValue) (s : Step) (a b : Seen) (e : LinkError) (error : DriveError) → error ≡ stop_of e → IsCommandAt c s a.port.peer → Serving 4104 a.port.peer → BrokeOff 0 a b e → Why (IsUndue c) e a.port b.port → IsCutOff c a.port b.port → Exchanged c a.port b.port None → Kept a.port b.port →
-    IsStopped c s a b error
-stopped-broken c s a b e error same at f k w cut x kept = subst (IsStopped c s a b) (sym same) (record {
-  why = why-broken c e a.port b.port w;
-  left = cut-told c s a.port b.port at f x;
-  stuck = unstuck s a b e;
-  grows = record { more = shown_lines k.infos; grew = k.shown };
-  heard = heard-broken c e a b k w;
-  down = cut.down;
-  sound = cut.sound;
-  kept = kept;
-})
+pub stopped-broken : (c : CommandValue) (s : Step) (a b : Seen) (e : LinkError) (error : DriveError) → IsTrue (is_some (spelling c)) → error ≡ stop_of e → IsCommandAt c s a.port.peer → Serving 4104 a.port.peer → BrokeOff (SaysFirst c a.port.peer) 0 a b e → Why (IsUndue c) e a.port b.port → (e ≢ link.Link → LogsWhole c a.port b.port) →
+    IsCutOff c a.port b.port → Exchanged c a.port b.port None → Kept a.port b.port → IsStopped NoFiles s a b error
+stopped-broken c s a b e error written same at f k w l cut x kept =
+    let spelled = some-of (spelling c) written in
+    let d = decides-at c s 4104 a.port.peer at f in
+    subst (IsStopped NoFiles s a b) (sym same) (record {
+      why = why-broken c e a.port b.port w;
+      left = cut-told c s a.port b.port at f x;
+      stuck = unstuck s a.port b.port e;
+      quiet = quiet-cut c a.port b.port (Grew a.text b.text []) x
+          (of-of (λ w. k.infos ≡ []) (λ w. Grew a.text b.text []) (λ w e. shown-none k.infos a.text b.text k.shown e) a.port.peer (says-none c s k.infos k.lines a.port.peer d k.due));
+      grows = record { more = shown_lines k.infos; grew = k.shown };
+      heard = heard-broken c spelled.0 e a b k w l spelled.1;
+      down = cut.down;
+      sound = cut.sound;
+      kept = kept;
+    })
 
 grows-part : (a b : Option (List ℕ)) (bytes : List ℕ) → GrewPart a b bytes → Grows a b
 grows-part None None bytes g = record { more = []; grew = tt }
@@ -298,15 +345,44 @@ grows-part None (Some b) bytes g = absurd g
 grows-part (Some a) None bytes g = absurd g
 grows-part (Some a) (Some b) bytes g = record { more = take g.count bytes; grew = g.grew }
 
-pub stopped-unshown : (c : CommandValue) (s : Step) (a b : Seen) → IsCommandAt c s a.port.peer → Serving 4104 a.port.peer → ShownInPart 0 a b → IsCutOff c a.port b.port → Exchanged c a.port b.port None → Kept a.port b.port →
-    IsStopped c s a b stop.Output
+pub stopped-unshown : (c : CommandValue) (s : Step) (a b : Seen) → IsCommandAt c s a.port.peer → Serving 4104 a.port.peer → ShownInPart (SaysFirst c a.port.peer) 0 a b → IsCutOff c a.port b.port → Exchanged c a.port b.port None → Kept a.port b.port →
+    IsStopped NoFiles s a b stop.Output
 stopped-unshown c s a b at f k cut x kept = record {
   why = tt;
   left = cut-told c s a.port b.port at f x;
   stuck = tt;
+  quiet = quiet-cut c a.port b.port (Grew a.text b.text []) x
+      (of-of (λ w. k.infos ≡ []) (λ w. Grew a.text b.text []) (λ w e. part-none k.infos a.text b.text k.shown e) a.port.peer (says-none c s k.infos k.lines a.port.peer (decides-at c s 4104 a.port.peer at f) k.due));
   grows = grows-part a.text b.text (shown_lines k.infos) k.shown;
-  heard = λ h l. tt;
+  heard = λ h. tt;
   down = cut.down;
   sound = cut.sound;
   kept = kept;
 }
+
+-- A command whose name is a name is spelled.
+named-spelled : (b : Bool) (bytes : List ℕ) → b ≡ true → is_some (only_if b bytes) ≡ true
+named-spelled b bytes e = ap (λ c. is_some (only_if c bytes)) e
+
+pub flash-spelled : (name : List ℕ) → IsName name → is_some (spelling (Flash name)) ≡ true
+flash-spelled name n = named-spelled (is_name name) (codes "flash:" ++ name) n
+
+pub erase-spelled : (name : List ℕ) → IsName name → is_some (spelling (Erase name)) ≡ true
+erase-spelled name n = named-spelled (is_name name) (codes "erase:" ++ name) n
+
+pub super-spelled : (name : List ℕ) (wipe : Bool) → IsName name → is_some (spelling (UpdateSuper name wipe)) ≡ true
+super-spelled name false n = named-spelled (is_name name) (codes "update-super:" ++ name) n
+super-spelled name true n = named-spelled (is_name name) (codes "update-super:" ++ (name ++ codes ":wipe")) n
+
+pub resize-spelled : (name : List ℕ) (size : ℕ) → IsName name → size < 2 ^ 64 → is_some (spelling (Resize name size)) ≡ true
+resize-spelled name size n h =
+    let fits : nat_lt size (2 ^ 64) ≡ true = grind (arith, nat_tests) in
+    named-spelled (is_name name && nat_lt size (2 ^ 64)) (codes "resize-logical-partition:" ++ (name ++ 58 ∷ decimal size)) (ap (λ b. b && nat_lt size (2 ^ 64)) n ∙ fits)
+
+pub reboot-spelled : (what : BootTarget) → is_some (spelling (Reboot what)) ≡ true
+reboot-spelled System = refl
+reboot-spelled Bootloader = refl
+reboot-spelled Fastboot = refl
+reboot-spelled Recovery = refl
+
+pub ruleset spells = (flash-spelled, erase-spelled, super-spelled, resize-spelled, reboot-spelled)

@@ -1,5 +1,5 @@
 -- A step of a plan as a command, and what a told device does to it (fastboot README, command reference).
-use Rattle.std.specs.Prelude.{◌≡◌, ℕ, true, List, Bool, Some}
+use Rattle.std.specs.Prelude.{◌≡◌, ℕ, true, false, List, Bool, Some}
 use Rattle.fb_frame.specs.declared.slot.Slot.{Slot}
 use Rattle.fb_frame.specs.declared.tables.Tables.{Tables}
 use Rattle.fb_message.specs.declared.command.BootTarget.{BootTarget}
@@ -49,6 +49,16 @@ pub record Decisions : Type 0 where
       IsDecided (UpdateSuper name wipe) (Table tables wipe) dev (Some file)
   pub boot : (what : BootTarget) (dev : Dev) (loaded : Loaded)
       → IsBooted (Reboot what) (mode_of what) dev loaded
+
+-- the command takes a step
+abbrev pub takes_step : CommandValue → Bool
+takes_step (SetActive slot) = true
+takes_step (command.Resize name size) = true
+takes_step (Erase name) = true
+takes_step (Reboot what) = true
+takes_step (Flash name) = true
+takes_step (UpdateSuper name wipe) = true
+takes_step _ = false
 
 -- What was downloaded is an image, and the step puts it over the partition.
 pub record PutsLoaded (name : List ℕ) (step : Step) (loaded : Loaded) : Type 0 where

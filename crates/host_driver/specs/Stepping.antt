@@ -16,7 +16,6 @@ use Rattle.wire_model.specs.Wire.{Wire}
 use Rattle.wire_told.specs.Answered.{Sound}
 use Rattle.wire_told.specs.Exchanges.{IsFreeFor}
 use Rattle.wire_told.specs.Peers.{Peer, OfLink}
-use Rattle.wire_told.specs.Places.{Appended}
 use Rattle.wire_told.specs.Ports.{PortTold, Kept}
 use Rattle.wire_told.specs.Turns.{CommandTest}
 use Rattle.fb_link.specs.Seen.{Seen}
@@ -27,9 +26,9 @@ use Rattle.host_driver.specs.declared.drive.DriveError.TheVariants as stop
 use Rattle.host_driver.specs.Commands.{IsCommandOf, TookStep, RefusedStep}
 use Rattle.host_driver.specs.Driven.{IsHaltedNow}
 use Rattle.host_driver.specs.Driving.{Grows}
-use Rattle.host_driver.specs.HeardLast.{HeardThen, HeardAt, LogEnds}
+use Rattle.host_driver.specs.HeardLast.{HeardThen, HeardAt}
 use Rattle.host_driver.specs.Jobs.{OfTold}
-use Rattle.host_driver.specs.Wires.{command_wire}
+use Rattle.host_driver.specs.Wires.{LogGrew}
 
 -- the port takes every command
 abbrev pub TakesAll : CommandTest → Type 0
@@ -56,15 +55,16 @@ stop_of (link.BadLength n) = stop.Peer (head n)
 stop_of (link.BadReply reply) = stop.Peer reply
 stop_of link.TooManyInfos = stop.TooManyInfos
 
--- The step was acknowledged: a told device took it, and nothing was shown.
-pub record IsStepped (command : CommandValue) (step : Step) (old new : Seen) : Type 0 where
+-- The step was acknowledged: a told device took it, and nothing was shown. It took at most `cost` bytes of the
+-- connection, and a told log grew by what it wires.
+pub record IsStepped (cost : ℕ) (Wires : List ℕ → Type 0) (step : Step) (old new : Seen) : Type 0 where
   pub took : OfTold old.port.peer new.port.peer (TookStep step)
-  pub serving : IsFalse (is_boot step) → (spare : ℕ) → Serving (4104 + spare) old.port.peer
+  pub serving : IsFalse (is_boot step) → (spare : ℕ) → Serving (cost + spare) old.port.peer
       → Serving spare new.port.peer
   pub quiet : OfTold old.port.peer new.port.peer (λ s t. Grew old.text new.text [])
   pub grows : Grows old.text new.text
   pub heard : HeardThen old.port.heard [] → HeardThen new.port.heard []
-  pub log : Appended old.port.log new.port.log (command_wire command)
+  pub log : LogGrew old.port.log new.port.log Wires
   pub kept : Kept old.port new.port
 
 -- What is left of a device where an attempt broke off in a step: what an attempt at this step alone leaves. It
@@ -73,39 +73,40 @@ pub record IsBrokenIn (step : Step) (broke : Type 0) (s t : Dev) : Type 0 where
   pub left : LeftBehind (step ∷ []) s 0 t
   pub halted : t.mode ≡ Halted → broke
 
--- Why an attempt breaks off in a step. Ends and bad replies are those of a port that tells no device.
-abbrev pub WhyStopped : PortTold → PortTold → DriveError → Type 0
-WhyStopped old new stop.Memory = ⊥
-WhyStopped old new (stop.Directory file) = ⊥
-WhyStopped old new stop.Output = Unit {0}
-WhyStopped old new stop.Link = Rose old.faults new.faults
-WhyStopped old new stop.Ended = (old.peer ≡ None) × Rose old.ends new.ends
-WhyStopped old new (stop.Refused text) = Unit {0}
-WhyStopped old new (stop.Peer kept) = old.peer ≡ None
-WhyStopped old new stop.TooManyInfos = old.peer ≡ None
-WhyStopped old new (stop.Requirement line name value) = ⊥
-WhyStopped old new (stop.Plan line kind) = ⊥
+-- Why an attempt breaks off in a step; `Files` is why it does at a file. Ends and bad replies are those of a
+-- port that tells no device.
+abbrev pub WhyStopped : (List ℕ → Type 0) → PortTold → PortTold → DriveError → Type 0
+WhyStopped Files old new stop.Memory = ⊥
+WhyStopped Files old new (stop.Directory file) = Files file
+WhyStopped Files old new stop.Output = Unit {0}
+WhyStopped Files old new stop.Link = Rose old.faults new.faults
+WhyStopped Files old new stop.Ended = (old.peer ≡ None) × Rose old.ends new.ends
+WhyStopped Files old new (stop.Refused text) = Unit {0}
+WhyStopped Files old new (stop.Peer kept) = old.peer ≡ None
+WhyStopped Files old new stop.TooManyInfos = old.peer ≡ None
+WhyStopped Files old new (stop.Requirement line name value) = ⊥
+WhyStopped Files old new (stop.Plan line kind) = ⊥
 
--- A step was refused with this text: a told device refuses it or halted in it, and nothing was shown.
-abbrev pub IsStuck : Step → Seen → Seen → DriveError → Type 0
-IsStuck step old new (stop.Refused text) = OfTold old.port.peer new.port.peer (λ s t.
-    (RefusedStep step text s t ⊎ IsHaltedNow old.port.faults new.port.faults text t)
-    × Grew old.text new.text [])
+-- A step was refused with this text: a told device refuses it, or halted in it.
+abbrev pub IsStuck : Step → PortTold → PortTold → DriveError → Type 0
+IsStuck step old new (stop.Refused text) = OfTold old.peer new.peer (λ s t.
+    RefusedStep step text s t ⊎ IsHaltedNow old.faults new.faults text t)
 IsStuck step old new _ = Unit {0}
 
--- a reply that isn't due came to this command, which the log ends with
-abbrev pub EndsLog : CommandValue → PortTold → DriveError → Type 0
-EndsLog command new (stop.Peer kept) = LogEnds new.log command
-EndsLog command new _ = Unit {0}
-
--- The attempt broke off in a step with this error, and the connection is down.
-pub record IsStopped (command : CommandValue) (step : Step) (old new : Seen) (error : DriveError) :
+-- The attempt broke off in a step with this error, and the connection is down. Of a told device nothing was
+-- shown.
+pub record IsStopped (Files : List ℕ → Type 0) (step : Step) (old new : Seen) (error : DriveError) :
     Type 0 where
-  pub why : WhyStopped old.port new.port error
+  pub why : WhyStopped Files old.port new.port error
   pub left : OfTold old.port.peer new.port.peer (IsBrokenIn step (Rose old.port.faults new.port.faults))
-  pub stuck : IsStuck step old new error
+  pub stuck : IsStuck step old.port new.port error
+  pub quiet : OfTold old.port.peer new.port.peer (λ s t. Grew old.text new.text [])
   pub grows : Grows old.text new.text
-  pub heard : HeardThen old.port.heard [] → EndsLog command new.port error → HeardAt new.port error
+  pub heard : HeardThen old.port.heard [] → HeardAt new.port error
   pub down : IsFalse new.port.up
   pub sound : Sound new.port.peer
   pub kept : Kept old.port new.port
+
+-- no file is read
+abbrev pub NoFiles : List ℕ → Type 0
+NoFiles file = ⊥

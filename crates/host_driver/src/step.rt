@@ -1,13 +1,17 @@
 //! A step of a plan that is decided by one command.
-ghost use Rattle.std.specs.Prelude.{◌≡◌, ◌≤◌, ℕ, IsTrue, IfOk, IfErr, None};
+ghost use Rattle.std.specs.Prelude.{◌≡◌, ◌≤◌, ◌<◌, ◌^◌, ℕ, IsTrue, IfOk, IfErr, is_some};
 ghost use Rattle.fb_frame.specs.Causes.{Rose};
-ghost use Rattle.fb_message.specs.CommandText.{command_value, is_written};
+ghost use Rattle.fb_frame.specs.NameText.{IsName};
+ghost use Rattle.fb_message.specs.CommandText.{command_value, spelling};
 ghost use Rattle.dev_model.specs.declared.step.Step.{Step};
-ghost use Rattle.wire_told.specs.Answered.{announces};
 ghost use Rattle.fb_link.specs.Seen.{seen};
+ghost use Rattle.host_driver.specs.Commands.{takes_step};
 ghost use Rattle.host_driver.specs.Stepping.{TakesAll, Serving, IsCommandAt, IsStepped, IsStopped, stop_of};
+ghost use Rattle.host_driver.specs.Stepping.{NoFiles};
+ghost use Rattle.host_driver.specs.Wires.{command_wire};
 
 use crate::drive::DriveError;
+use fb_frame::name::Name;
 use fb_frame::sink::Sink;
 use fb_link::link_error::LinkError;
 use fb_link::port::Port;
@@ -29,6 +33,38 @@ pub(crate) fn stopped(error: LinkError) -> DriveError
     }
 }
 
+/// For contracts alone: a name is one.
+fn know_name(name: &Name)
+    ensures { IsName name.now }
+{
+    let _ = name.bytes();
+}
+
+/// For contracts alone: a name is one, and a size fits.
+fn know_sized(name: &Name, size: u64)
+    ensures name { IsName name.now }
+    ensures size { size < 2 ^ 64 }
+{
+    know_name(name);
+}
+
+/// For contracts alone: a step's command has a spelling, since its name is one.
+#[tactic(auto, using(crate::proofs::TakeLemmas::spells))]
+fn know_spelled(command: &Command<'_>)
+    requires step { IsTrue (takes_step (command_value command.now)) }
+    ensures spelled { IsTrue (is_some (spelling (command_value command.now))) }
+{
+    match command {
+        Command::SetActive(_) => {}
+        Command::Reboot(_) => {}
+        Command::Flash(name) => know_name(name),
+        Command::Erase(name) => know_name(name),
+        Command::UpdateSuper(name, _) => know_name(name),
+        Command::Resize(name, size) => know_sized(name, *size),
+        _ => unreachable!(),
+    }
+}
+
 /// Takes a step by its command: sends it and hears the replies, of which each line is shown.
 pub(crate) fn take<P: Port, S: Sink>(
     ready: Ready<P>,
@@ -36,23 +72,23 @@ pub(crate) fn take<P: Port, S: Sink>(
     shown: &mut S,
 ) -> Result<Ready<P>, (Lost<P>, DriveError)>
     requires takes { TakesAll P.takes }
-    requires written { IsTrue (is_written (command_value command.now)) }
-    requires plain { announces (command_value command.now) ≡ None }
+    requires step { IsTrue (takes_step (command_value command.now)) }
     requires serving { Serving 4104 (P.told ready).peer }
     ensures same { IfOk result (λ r. P.lent r ≡ P.lent ready) }
     ensures same_lost { IfErr result (λ e. P.lent e.0 ≡ P.lent ready) }
     ensures stepped { IfOk result (λ r. (step : Step) →
         IsCommandAt (command_value command.now) step (P.told ready).peer →
-        IsStepped (command_value command.now) step
+        IsStepped 4104 (λ bytes. bytes ≡ command_wire (command_value command.now)) step
         (seen (P.told ready) (S.text shown.old)) (seen (P.told r) (S.text shown.new))) }
     ensures stopped { IfErr result (λ e. (step : Step) →
         IsCommandAt (command_value command.now) step (P.told ready).peer →
-        IsStopped (command_value command.now) step
+        IsStopped NoFiles step
         (seen (P.told ready) (S.text shown.old)) (seen (P.told e.0) (S.text shown.new)) e.1) }
     ensures shown_later { S.faults shown.old ≤ S.faults shown.new }
     ensures output { IfErr result (λ e.
         e.1 ≡ DriveError.Output → Rose (S.faults shown.old) (S.faults shown.new)) }
 {
+    know_spelled(command);
     match ready.command(command, shown) {
         Answer::Okay(ready, _) => Ok(ready),
         Answer::Fail(ready, text) => Err((ready.hang_up(), DriveError::Refused(text))),

@@ -12,7 +12,7 @@ returns-in-Fail-clause-stopped g c = λ step at.
 pub returns-in-Broken-clause-stopped : goal.returns-in-Broken-clause-stopped
 returns-in-Broken-clause-stopped g c = λ step at.
     let e = c.in-Broken.ensures in
-    stopped-broken _ step _ _ _ _ c.stopped.ensures at c.requires.serving e.broke e.why e.cut e.exchange e.kept
+    stopped-broken _ step _ _ _ _ c.know_spelled.ensures.spelled c.stopped.ensures at c.requires.serving e.broke e.why e.sent e.cut e.exchange e.kept
 
 pub returns-in-Unshown-clause-stopped : goal.returns-in-Unshown-clause-stopped
 returns-in-Unshown-clause-stopped g c = λ step at.
