@@ -60,7 +60,7 @@ eq-false a b h = by (bytes_eq b a) refl
     by false e = refl
     by true e = absurd (never (bytes_eq a b) ((bytes_eq-Decides a b).1 (sym ((bytes_eq-Decides b a).0 e))) h)
 
-not-or : (a b : Bool) → not (a || b) ≡ true → (a ≡ false) × (not b ≡ true)
+pub not-or : (a b : Bool) → not (a || b) ≡ true → (a ≡ false) × (not b ≡ true)
 not-or true b h = absurd cc
 not-or false b h = (refl, h)
 

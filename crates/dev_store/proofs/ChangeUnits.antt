@@ -1,5 +1,5 @@
 -- What a change of one part of the map leaves of the units of each partition.
-use Rattle.std.proofs.Common.{◌≡◌, ◌≢◌, ◌∙◌, refl, ap, sym, ℕ, suc, ◌+◌, ◌<◌, ◌≤◌, Bool, true, false, cond, List, [], ◌∷◌, length, get_or, arith, Some, None, inl, inr}
+use Rattle.std.proofs.Common.{◌≡◌, ◌≢◌, ◌∙◌, refl, ap, sym, ℕ, suc, ◌+◌, ◌<◌, ◌≤◌, Bool, true, false, cond, List, map, [], ◌∷◌, length, get_or, arith, Some, None, inl, inr}
 use Rattle.std.specs.Prelude.{◌⊎◌, not, nat_le, slice_get, bytes_eq}
 use Rattle.std.specs.List.{position_or_len}
 use Rattle.std.proofs.lemmas.List.{get_or-set_same, get_or-set_other, get_or_past}
@@ -109,3 +109,28 @@ times-named u o parts logical name other many once ne = by (slice_get_cases part
     by (inl (p, l, e, a)) (inr (m, f)) = let x = some name p e in let y = none other f in let t = times-part u o p in omega arith
     by (inr (l, e)) (inl (q, m, f, b)) = let x = none name e in let y = some other q f in let t = times-part u o q in omega arith
     by (inr (l, e)) (inr (m, f)) = let x = none name e in let y = none other f in omega arith
+
+-- a partition has a unit at most as often as all have it
+pub times-of : (u : ℕ) (o : Owning) (parts : List ℕ) (logical : List Logical) (name : List ℕ) → length parts ≡ length logical → times_in u (by_name o parts logical name) ≤ times u o.parts
+times-of u o parts logical name many = by (slice_get_cases parts (position_or_len (at-name name) logical)).1
+  where
+    by : ((k : ℕ) × (position_or_len (at-name name) logical < length parts) × (slice_get parts (position_or_len (at-name name) logical) ≡ Some k)
+        × (get_or parts (position_or_len (at-name name) logical) k ≡ k)) ⊎ ((length parts ≤ position_or_len (at-name name) logical) × (slice_get parts (position_or_len (at-name name) logical) ≡ None)) →
+        times_in u (by_name o parts logical name) ≤ times u o.parts
+    by (inl (k, l, e, a)) = let x = ap (times_in u) (by-place o parts logical name many ∙ ap (units_by (Some o)) e) in let t = times-part u o k in omega arith
+    by (inr (l, e)) = let x = ap (times_in u) (by-place o parts logical name many ∙ ap (units_by (Some o)) e) in let z = times_in-nil u in omega arith
+
+-- places are found by names alone
+pub place-names : (name : List ℕ) (ps qs : List Logical) → map (λ p. p.name) ps ≡ map (λ p. p.name) qs → position_or_len (at-name name) ps ≡ position_or_len (at-name name) qs
+place-names name [] [] h = refl
+place-names name [] (q ∷ qs) h = absurd cc
+place-names name (p ∷ ps) [] h = absurd cc
+place-names name (p ∷ ps) (q ∷ qs) h =
+    let head : p.name ≡ q.name = cc in
+    let rest = place-names name ps qs cc in
+    λ i. cond (not (bytes_eq (head i) name)) (1 + rest i) 0
+
+pub by-alike : (o : Owning) (parts : List ℕ) (ps qs : List Logical) (name : List ℕ) → length parts ≡ length ps → length parts ≡ length qs → map (λ p. p.name) ps ≡ map (λ p. p.name) qs →
+    by_name o parts ps name ≡ by_name o parts qs name
+by-alike o parts ps qs name m n h =
+    by-place o parts ps name m ∙ (ap (λ k. units_by (Some o) (slice_get parts k)) (place-names name ps qs h) ∙ sym (by-place o parts qs name n))
