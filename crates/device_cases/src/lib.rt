@@ -1,0 +1,11 @@
+//! Cases of devices: what steps make of them, what they answer to bytes, and super metadata as byte lists.
+#![tactic(auto)]
+
+#[cfg(test)]
+mod device_answers;
+#[cfg(test)]
+mod device_steps;
+#[cfg(test)]
+mod devices;
+#[cfg(test)]
+mod super_tables;

@@ -1,0 +1,9 @@
+//! Cases of device images: layouts, images that are made, and images that are opened.
+#![tactic(auto)]
+
+#[cfg(test)]
+mod layouts;
+#[cfg(test)]
+mod new_images;
+#[cfg(test)]
+mod openings;
