@@ -325,12 +325,16 @@ pub put_partly : (layout : LayoutValue) (state : State) (table : Option Content)
 put_partly layout state table name at bytes old new k h w =
     partly-by layout (device_held layout state table) name at bytes old new (kept-valid layout state table old k) h w.body w.device
 
--- A written image keeps its length, so all that is kept of it stays.
+-- A changed image keeps its length, so all that is kept of it stays.
+long-kept : (layout : LayoutValue) (old new : Option (List ℕ)) → IfSome old (λ file. length file ≡ image_size layout) → Both (IsBodyChanged layout) old new → IfSome new (λ file. length file ≡ image_size layout)
+long-kept layout None None h b = tt
+long-kept layout None (Some new) h b = absurd b
+long-kept layout (Some old) None h b = absurd b
+long-kept layout (Some old) (Some new) h b = b.same_length ∙ h
+
+pub body_kept : (layout : LayoutValue) (state : State) (table : Option Content) (old new : Option (List ℕ)) → IsKept layout state table old → Both (IsBodyChanged layout) old new → IsKept layout state table new
+body_kept layout state table old new k b = record { laid = k.laid; stated = k.stated; tabled = k.tabled; long = long-kept layout old new k.long b }
+
 pub put_kept : (layout : LayoutValue) (state : State) (table : Option Content) (dev : Option (List ℕ) → Dev) (change : Dev → Dev) (old new : Option (List ℕ)) → IsKept layout state table old →
     IsPartWritten layout dev change old new → IsKept layout state table new
-put_kept layout state table dev change old new k w = record { laid = k.laid; stated = k.stated; tabled = k.tabled; long = by old new k.long w.body } where
-  by : (old new : Option (List ℕ)) → IfSome old (λ file. length file ≡ image_size layout) → Both (IsBodyChanged layout) old new → IfSome new (λ file. length file ≡ image_size layout)
-  by None None h b = tt
-  by None (Some new) h b = absurd b
-  by (Some old) None h b = absurd b
-  by (Some old) (Some new) h b = b.same_length ∙ h
+put_kept layout state table dev change old new k w = body_kept layout state table old new k w.body
