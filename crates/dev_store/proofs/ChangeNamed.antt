@@ -108,7 +108,7 @@ each-fit unit f [] h = tt
 each-fit unit f (p ∷ ps) h = (h.0, each-fit unit f ps h.1)
 
 -- extents of which all but the last are whole have as many units as their bytes need
-eq-is : (a b : ℕ) → (a == b) ≡ true → a ≡ b
+pub eq-is : (a b : ℕ) → (a == b) ≡ true → a ≡ b
 eq-is a b h = grind (arith, nat_tests)
 
 whole-times : (n unit : ℕ) → 0 < unit → (n % unit == 0) ≡ true → div_ceil n unit * unit ≡ n

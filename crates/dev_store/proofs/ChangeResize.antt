@@ -1,31 +1,39 @@
 -- A partition of another length: the device, the map of units and the units of each name.
-use Rattle.std.proofs.Common.{◌≡◌, ◌≢◌, ◌∙◌, refl, ap, sym, subst, ℕ, ◌+◌, ◌-◌, ◌<◌, ◌≤◌, Bool, true, false, List, [], ◌∷◌, ◌++◌, map, length, take, arith, Some, length-append}
-use Rattle.std.specs.Prelude.{not, find, ◌%◌, nat_lt, bytes_eq, if◌then◌else◌}
-use Rattle.std.specs.List.{list_all, AllByRecursion}
-use Rattle.std.proofs.lemmas.List.{length-take}
+use Rattle.std.proofs.Common.{◌≡◌, ◌≢◌, ◌∙◌, refl, ap, sym, subst, ℕ, zero, suc, ◌+◌, ◌-◌, ◌<◌, ◌≤◌, Bool, true, false, List, [], ◌∷◌, ◌++◌, map, length, take, arith, Some, length-append, length-set}
+use Rattle.std.specs.Prelude.{not, find, ◌%◌, nat_lt, slice_get, bytes_eq, if◌then◌else◌}
+use Rattle.std.specs.List.{list_all, position_or_len, AllByRecursion}
+use Rattle.std.proofs.lemmas.List.{take_all, length-take}
+use Rattle.std.proofs.lemmas.Bool.Decides.{nat_tests}
 use Rattle.std.proofs.lemmas.Slice.Eq.{bytes_eq-Decides}
 use Rattle.dev_model.specs.declared.device.Dev.{Dev}
 use Rattle.dev_model.specs.declared.device.Logical.{Logical}
 use Rattle.dev_model.specs.Partitions.{logical_changed}
 use Rattle.dev_model.specs.Sizes.{units_for}
-use Rattle.dev_model.specs.Steps.{cut_or_padded}
+use Rattle.dev_model.specs.Images.{round_up}
+use Rattle.dev_model.specs.declared.step.Step.TheVariants.{Resize}
+use Rattle.dev_model.specs.Steps.{cut_or_padded, apply}
 use Rattle.fb_frame.specs.Distinct.{are_distinct}
 use Rattle.dev_model.proofs.Names.{among}
-use Rattle.dev_model.proofs.Valid.{both}
-use Rattle.dev_model.proofs.ValidSizes.{length-cut}
-use Rattle.unit_alloc.specs.Owning.{Owning, times_in, units_of}
+use Rattle.dev_model.specs.Tables.{is_group}
+use Rattle.dev_model.proofs.Valid.{map-same, all-same, both}
+use Rattle.dev_model.proofs.ValidSizes.{length-cut, whole-round}
+use Rattle.unit_alloc.specs.Owning.{Owning, OneOwner, times_in, free_units, units_of}
+use Rattle.super_meta.specs.Contents.{Content}
 use Rattle.dev_store.specs.declared.layout.SuperPart.{SuperPart}
 use Rattle.dev_store.specs.declared.state.State.{State}
 use Rattle.dev_store.specs.LayoutLines.{unit_count}
 use Rattle.dev_store.specs.Layouts.{LayoutValue}
 use Rattle.dev_store.specs.Runs.{table_for}
 use Rattle.dev_store.specs.SuperBounds.{IsMapOf}
+use Rattle.dev_store.specs.Held.{units_by}
 use Rattle.dev_store.specs.Stand.{super_bytes, physical_at, device_with}
 use Rattle.dev_store.proofs.ChangeHeld.{IsDeviceOf, value_in}
-use Rattle.dev_store.proofs.ChangeNamed.{at-name, not-or}
-use Rattle.dev_store.proofs.ChangeBytes.{padded-lies, kept-lies, other-lies}
-use Rattle.dev_store.proofs.ChangeStore.{device_in}
-use Rattle.dev_store.specs.TableChanges.{IsFitted, AreFitted, LiesIn, IsTailChanged, IsPadded}
+use Rattle.dev_store.proofs.ChangeNamed.{by_name, at-name, by-place, by-names, not-or, eq-is}
+use Rattle.dev_store.proofs.ChangeBytes.{super-long, padded-lies, kept-lies, other-lies, physical-same}
+use Rattle.dev_store.proofs.ChangeStore.{HasUnits, device_in, file-long, store-device, store-many}
+use Rattle.dev_store.proofs.ChangeAfter.{device-after, device-before, units-after, fitted-after}
+use Rattle.dev_store.proofs.ChangeOne.{one-changed, below-of, empty-one}
+use Rattle.dev_store.specs.TableChanges.{IsFitted, AreFitted, LiesIn, IsTailChanged, IsPadded, IsStoreSuper, regrown}
 
 -- the partition of the name is this long
 abbrev pub IsLong : List ℕ → ℕ → List Logical → Type 0
@@ -149,3 +157,91 @@ of-logical : (layout : LayoutValue) (state : State) (old new : List ℕ) (dev : 
     IsDeviceOf layout state new (record dev { logical = ls })
 of-logical layout state old new dev ls h same =
     ap (λ (d : Dev). let e : Dev = record d { logical = ls } in e) h ∙ ap (λ ps. device_with layout state ps (record (value_in dev) { logical = ls })) (sym same)
+
+inside-of : (parts : List ℕ) (i part : ℕ) → list_all (λ part. nat_lt part 128) parts ≡ true → slice_get parts i ≡ Some part → part < 128
+inside-of [] i part h at = absurd cc
+inside-of (p ∷ parts) zero part h at = let e : p ≡ part = cc in let b = (both (nat_lt p 128) _ h).0 in grind (arith, nat_tests)
+inside-of (p ∷ parts) (suc i) part h at = inside-of parts i part (both (nat_lt p 128) _ h).1 at
+
+-- the part of a partition is one of the map's
+pub part-inside : (s : SuperPart) (c : Content) (o : Owning) (parts : List ℕ) (i part : ℕ) → IsMapOf s c o parts → slice_get parts i ≡ Some part → part < length o.parts
+part-inside s c o parts i part h at = let l = inside-of parts i part h.there at in omega (arith, l, h.many)
+
+-- the units of a name are those of its part
+part-own : (o : Owning) (parts : List ℕ) (ps : List Logical) (name : List ℕ) (part : ℕ) → length parts ≡ length ps → slice_get parts (position_or_len (at-name name) ps) ≡ Some part → by_name o parts ps name ≡ units_of o part
+part-own o parts ps name part many at = by-place o parts ps name many ∙ ap (units_by (Some o)) at
+
+-- a partition of another length, over a file in which zeros follow its bytes
+pub resize-after : (layout : LayoutValue) (s : SuperPart) (state : State) (c : Content) (o now : Owning) (parts old new name : List ℕ) (part len size : ℕ) → IsStoreSuper layout s state c o parts old →
+    slice_get parts (position_or_len (at-name name) (device_in layout state c old).logical) ≡ Some part → now ≡ regrown o part (units_for s.unit (round_up size)) → OneOwner now →
+    units_for s.unit (round_up size) ≤ length (units_of o part) + length (free_units o) → IsLong name len (device_in layout state c old).logical →
+    IsPadded layout s (units_of now part) len (round_up size) old new → IsResized layout s state now parts new (apply (Resize name size) (device_in layout state c old))
+resize-after layout s state c o now parts old new name part len size h at e one room n padded =
+    let dev = device_in layout state c old in
+    let d = store-device layout s state c o parts old h in
+    let count = units_for s.unit (round_up size) in
+    let own = units_of o part in
+    let more = take (count - length own) (free_units o) in
+    let list = take count own ++ more in
+    let many = store-many layout s state c o parts old h in
+    let inside = part-inside s c o parts (position_or_len (at-name name) dev.logical) part h.mapped at in
+    let f = by_name o parts dev.logical in
+    let g = by_name now parts dev.logical in
+    let is : f name ≡ own = part-own o parts dev.logical name part many at in
+    let ch = one-changed o now parts dev.logical name list part many h.mapped.apart at inside e one in
+    let four = d.bounded.unit in
+    let pos : 0 < s.unit = omega arith in
+    let g-is : g name ≡ take count (f name) ++ more = ch.own ∙ ap (λ l. take count l ++ more) (sym is) in
+    let pad : IsPadded layout s (g name) len (round_up size) old new = subst (λ l. IsPadded layout s l len (round_up size) old new) (sym (part-own now parts dev.logical name part many at)) padded in
+    let apart : (other : List ℕ) → other ≢ name → (u : ℕ) → times_in u (g name) + times_in u (g other) ≤ 1 =
+    λ other ne u. subst (λ l. times_in u l + times_in u (g other) ≤ 1) (sym ch.own) (ch.apart other ne u) in
+    let next = apply (Resize name size) dev in
+    let below = below-of o parts dev.logical name (unit_count s) many h.one h.mapped.units in
+    let whole = eq-is (round_up size % 4096) 0 (whole-round size) in
+    let enough : length (g name) ≡ count = ap length ch.own ∙ grown-many own (free_units o) count room in
+    let units : HasUnits layout s new g next = record {
+      names = ap are_distinct (map-same (logical_changed name (cut_or_padded (round_up size))) (λ p. p.name) (λ p. refl) dev.logical) ∙ d.units.names;
+      lies = parts-after layout s old new f g name more len count (round_up size) d.long pos below refl g-is ch.others apart pad dev.logical n d.units.fits d.units.lies;
+      fits = fits-after s.unit f g name count (round_up size) refl whole enough ch.others dev.logical d.units.fits;
+      groups = all-same (logical_changed name (cut_or_padded (round_up size))) (λ p. is_group dev.groups p.group) (λ p. refl) dev.logical ∙ d.units.groups;
+    } in
+    let lists : map (λ p. g p.name) next.logical ≡ map (units_of now) parts =
+    map-same (logical_changed name (cut_or_padded (round_up size))) (λ p. g p.name) (λ p. refl) dev.logical ∙ by-names now parts dev.logical many d.units.names in
+    let of = of-logical layout state old new dev next.logical d.same (physical-same layout s (units_of now part) len old new padded.tail) in
+    record {
+      device = device-after layout s state new g next (map (units_of now) parts) h.part d.bounded of units lists;
+      mapped = record {
+        units = ap (λ (q : Owning). q.units) e ∙ h.mapped.units;
+        many = ap (λ (q : Owning). length q.parts) e ∙ (length-set o.parts part list ∙ h.mapped.many);
+        there = h.mapped.there;
+        lists = units-after layout s new g next (map (units_of now) parts) d.bounded units lists;
+        apart = h.mapped.apart;
+        empty = empty-one o now parts (position_or_len (at-name name) dev.logical) part list at e h.mapped.empty;
+      };
+      fitted = fitted-after layout s new g next (map (units_of now) parts) units lists;
+    }
+
+-- the device before, while bytes after those of the partition change in the units that it is to have
+pub resize-before : (layout : LayoutValue) (s : SuperPart) (state : State) (c : Content) (o now : Owning) (parts old new name : List ℕ) (part len count : ℕ) → IsStoreSuper layout s state c o parts old →
+    slice_get parts (position_or_len (at-name name) (device_in layout state c old).logical) ≡ Some part → now ≡ regrown o part count → OneOwner now → length (units_of o part) ≤ count →
+    IsLong name len (device_in layout state c old).logical → IsTailChanged layout s (units_of now part) len old new → device_in layout state c new ≡ device_in layout state c old
+resize-before layout s state c o now parts old new name part len count h at e one grows n tail =
+    let dev = device_in layout state c old in
+    let d = store-device layout s state c o parts old h in
+    let own = units_of o part in
+    let more = take (count - length own) (free_units o) in
+    let list = take count own ++ more in
+    let many = store-many layout s state c o parts old h in
+    let inside = part-inside s c o parts (position_or_len (at-name name) dev.logical) part h.mapped at in
+    let f = by_name o parts dev.logical in
+    let is : f name ≡ own = part-own o parts dev.logical name part many at in
+    let ch = one-changed o now parts dev.logical name list part many h.mapped.apart at inside e one in
+    let four = d.bounded.unit in
+    let pos : 0 < s.unit = omega arith in
+    let now-is : units_of now part ≡ list = sym (part-own now parts dev.logical name part many at) ∙ ch.own in
+    let keeps : list ≡ f name ++ more = ap (λ l. l ++ more) (take_all count own grows ∙ sym is) in
+    let long-new : length (super_bytes layout s new) ≡ s.size = super-long layout s new (omega (arith, file-long layout s old h.part h.kept.long, tail.same_length)) in
+    device-before layout s state c o parts old new h (physical-same layout s (units_of now part) len old new tail)
+    (parts-before layout s old new f name list d.long long-new pos (below-of o parts dev.logical name (unit_count s) many h.one h.mapped.units)
+    (λ other ne u. subst (λ l. times_in u list + times_in u l ≤ 1) (ch.others other ne) (ch.apart other ne u)) len more keeps
+    (subst (λ l. IsTailChanged layout s l len old new) now-is tail) dev.logical n d.units.fits d.units.lies)

@@ -86,7 +86,7 @@ pub held-logical : (layout : LayoutValue) (s : SuperPart) (state : State) (c : C
     (device_in layout state c file).logical ≡ map (logical_at s c (super_bytes layout s file)) c.partitions
 held-logical layout s state c file part = ap (λ (d : Dev). d.logical) (held-is layout s state c file part)
 
-file-long : (layout : LayoutValue) (s : SuperPart) (file : List ℕ) → layout.super_part ≡ Some s → length file ≡ image_size layout → parts_end layout.physical + s.size ≤ length file
+pub file-long : (layout : LayoutValue) (s : SuperPart) (file : List ℕ) → layout.super_part ≡ Some s → length file ≡ image_size layout → parts_end layout.physical + s.size ≤ length file
 file-long layout s file part long = let z = ap super_size part in omega arith
 
 pub store-valid : (layout : LayoutValue) (s : SuperPart) (state : State) (c : Content) (o : Owning) (parts file : List ℕ) → IsStoreSuper layout s state c o parts file → IsValid (device_in layout state c file)
