@@ -80,7 +80,7 @@ pub differ-self : (q m : ℕ) (a : List ℕ) → DifferWithin q m a a
 differ-self q m a = record { same_length = refl; front = refl; rest = refl }
 
 -- copies share no byte
-apart : (s : SuperPart) (j k : ℕ) → j ≢ k → (copy_place s j + s.max_size ≤ copy_place s k) ⊎ (copy_place s k + s.max_size ≤ copy_place s j)
+pub apart : (s : SuperPart) (j k : ℕ) → j ≢ k → (copy_place s j + s.max_size ≤ copy_place s k) ⊎ (copy_place s k + s.max_size ≤ copy_place s j)
 apart s j k ne = elim (order j k ne) [
   | inl l ↦ inl (let m : s.max_size * (j + 1) ≤ s.max_size * k = mul-le-mul_left s.max_size (omega arith) in omega arith)
   | inr l ↦ inr (let m : s.max_size * (k + 1) ≤ s.max_size * j = mul-le-mul_left s.max_size (omega arith) in omega arith)
@@ -92,12 +92,12 @@ apart s j k ne = elim (order j k ne) [
       by true e = inl (grind (arith, nat_tests))
       by false e = inr (let h : k ≤ j = grind (arith, nat_tests) in omega arith)
 
-shift : (at x n y : ℕ) → (x + n ≤ y) ⊎ (y + n ≤ x) → (at + x + n ≤ at + y) ⊎ (at + y + n ≤ at + x)
+pub shift : (at x n y : ℕ) → (x + n ≤ y) ⊎ (y + n ≤ x) → (at + x + n ≤ at + y) ⊎ (at + y + n ≤ at + x)
 shift at x n y (inl h) = inl (omega arith)
 shift at x n y (inr h) = inr (omega arith)
 
 -- another copy reads as before
-reads-kept : (s : SuperPart) (at j k : ℕ) (a b : List ℕ) → IsBounded s → j < 2 * s.slots → j ≢ k → DifferWithin (at + copy_place s k) s.max_size a b →
+pub reads-kept : (s : SuperPart) (at j k : ℕ) (a b : List ℕ) → IsBounded s → j < 2 * s.slots → j ≢ k → DifferWithin (at + copy_place s k) s.max_size a b →
     copy_reads s j (copy b at s.size) ≡ copy_reads s j (copy a at s.size)
 reads-kept s at j k a b bound l ne d =
     reads-at s b at j bound l

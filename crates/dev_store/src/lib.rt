@@ -36,6 +36,7 @@ mod super_rooms;
 mod super_table;
 mod table_build;
 mod table_runs;
+mod table_write;
 mod units;
 mod variables_all;
 mod variables_base;

@@ -2,12 +2,14 @@
 ghost use Rattle.std.specs.Prelude.{◌≡◌, ◌+◌, ◌*◌, ◌^◌, ◌<◌, length, OnOk, OnErr, IsTrue, Some, Ok};
 ghost use Rattle.std.specs.Result.{IsErrOf};
 ghost use Rattle.fb_frame.specs.Causes.{Rose};
+ghost use Rattle.fb_frame.specs.Told.{Both};
 ghost use Rattle.dev_disk.specs.Files.{IsInside};
-ghost use Rattle.dev_disk.specs.Disks.{OpenKept, Writes};
+ghost use Rattle.dev_disk.specs.Disks.{open_bytes, OpenKept, Writes};
 ghost use Rattle.dev_model.specs.Images.{copies};
 ghost use Rattle.dev_store.specs.Layouts.{layout_of, image_size, parts_end};
 ghost use Rattle.dev_store.specs.Laid.{is_good_super};
 ghost use Rattle.dev_store.specs.Making.{image_front, super_front, SuperWrites, Fills};
+ghost use Rattle.dev_store.specs.TableWrites.{AreSomeWritten};
 
 use crate::layout::{Layout, SuperPart};
 use crate::making_blocks::{geometry_block, new_state, table_block, text_block};
@@ -16,10 +18,12 @@ use dev_disk::disk::{CreateError, Disk, DiskFault};
 use std::alloc::Global;
 
 /// Writes a block `count` times in a row, from the place `at` on.
-fn write_copies<K: Disk>(disk: &mut K, at: u64, block: &[u8], count: u32) -> Result<(), DiskFault>
+pub fn write_copies<K: Disk>(disk: &mut K, at: u64, block: &[u8], count: u32) -> Result<(), DiskFault>
     requires inside { IsInside (K.told disk.old).open_length at (count * length block.now) }
     requires small { at + count * length block.now < 2 ^ 64 }
     ensures writes { OnOk result (Writes (K.told disk.old) (K.told disk.new) at (copies count block.now)) }
+    ensures left { OnErr result (Both (AreSomeWritten (K.told disk.new).torn at count block.now)
+        (open_bytes (K.told disk.old)) (open_bytes (K.told disk.new))) }
     ensures kept { OpenKept (K.told disk.old) (K.told disk.new) }
     ensures cause { OnErr result (Rose (K.told disk.old).faults (K.told disk.new).faults) }
     ensures same { K.lent disk.new ≡ K.lent disk.old }
