@@ -1,8 +1,8 @@
 -- What a partition is that was found by its name.
-use Rattle.std.proofs.Common.{◌≡◌, ◌∙◌, refl, ap, sym, subst, ℕ, zero, suc, ◌<◌, Bool, true, false, cond, List, [], ◌∷◌, ◌++◌, map, find, length, Option, Some, None, option_map, get_or, append-nil, if◌then◌else◌, arith}
-use Rattle.std.specs.Prelude.{bytes_eq, nat_lt, ◌&&◌}
+use Rattle.std.proofs.Common.{◌≡◌, ◌∙◌, refl, ap, sym, subst, ℕ, zero, suc, ◌<◌, Bool, true, false, cond, List, [], ◌∷◌, map, find, length, Option, Some, None, option_map, get_or, if◌then◌else◌, arith}
+use Rattle.std.specs.Prelude.{bytes_eq, nat_lt}
 use Rattle.std.specs.Option.{option_or}
-use Rattle.std.specs.List.{list_all, AllByRecursion, slice_index_or}
+use Rattle.std.specs.List.{list_all, AllByRecursion}
 use Rattle.std.proofs.lemmas.Bool.Decides.{nat_tests}
 use Rattle.dev_model.specs.declared.device.Dev.{Dev}
 use Rattle.dev_model.specs.Partitions.{bytes_of, is_partition, is_logical}

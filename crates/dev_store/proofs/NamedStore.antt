@@ -1,6 +1,6 @@
 -- What a store keeps of a logical partition that was found by its name.
-use Rattle.std.proofs.Common.{◌≡◌, ◌∙◌, refl, ap, sym, subst, ℕ, Bool, true, false, cond, List, [], map, find, length, Option, Some, None, option_map, unwrap_or, Result, Ok, Err, arith}
-use Rattle.std.specs.Prelude.{bytes_eq, slice_get, position, nat_lt}
+use Rattle.std.proofs.Common.{◌≡◌, ◌∙◌, refl, ap, sym, subst, ℕ, true, cond, List, [], map, find, length, Option, Some, None, option_map, unwrap_or, Result, Ok, Err, arith}
+use Rattle.std.specs.Prelude.{slice_get, position, nat_lt}
 use Rattle.std.specs.Option.{option_and_then}
 use Rattle.std.specs.List.{list_all, position_or_len}
 use Rattle.std.specs.Result.{result_ok}

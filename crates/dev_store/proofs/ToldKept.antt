@@ -1,5 +1,5 @@
 -- A device that a layout, a state and a table make tells what their facts do.
-use Rattle.std.proofs.Common.{◌≡◌, ◌∙◌, refl, ap, sym, subst, ℕ, ◌+◌, ◌*◌, ◌<◌, ◌≤◌, ◌^◌, Bool, true, false, List, [], ◌∷◌, ◌++◌, map, length, take, drop, sum_by, Option, Some, None, option_map, arith, length-append}
+use Rattle.std.proofs.Common.{◌≡◌, ◌∙◌, refl, ap, sym, subst, ℕ, ◌+◌, ◌<◌, ◌≤◌, ◌^◌, Bool, true, false, List, [], ◌∷◌, map, length, sum_by, Option, Some, None, option_map, arith, length-append}
 use Rattle.std.specs.Prelude.{nat_le, ◌&&◌, ◌%◌, ◌==◌, filter_map, IsTrue, is_some, if◌then◌else◌}
 use Rattle.std.specs.List.{list_all, AllByRecursion}
 use Rattle.std.specs.Result.{result_ok}
@@ -21,7 +21,6 @@ use Rattle.dev_model.proofs.ShortTexts.{rows_short}
 use Rattle.dev_model.proofs.RowCounts.{rows_few}
 use Rattle.dev_model.proofs.Valid.{both}
 use Rattle.super_meta.specs.declared.table.Partition.{Partition}
-use Rattle.super_meta.specs.declared.table.Extent.{Extent}
 use Rattle.super_meta.specs.Contents.{Content}
 use Rattle.super_meta.specs.TableText.{table_of}
 use Rattle.dev_store.specs.declared.layout.PhysicalPart.{PhysicalPart}
@@ -31,7 +30,7 @@ use Rattle.dev_store.specs.declared.variables_row.Facts.{Facts}
 use Rattle.dev_store.specs.Layouts.{LayoutValue, parts_end, image_size}
 use Rattle.dev_store.specs.Laid.{IsLaid, is_good_super}
 use Rattle.dev_store.specs.States.{is_state, start_mode, both_flags}
-use Rattle.dev_store.specs.Stand.{SuperValue, no_super, super_bytes, super_value, physical_at, device_with}
+use Rattle.dev_store.specs.Stand.{no_super, super_bytes, super_value, physical_at, device_with}
 use Rattle.dev_store.specs.StoreCalls.{started_in}
 use Rattle.dev_store.specs.Supers.{are_good_units, extents_of, bytes_in, is_at_unit, lies_in_units, logical_at}
 use Rattle.dev_store.specs.ToldRows.{told_device, told_physical, told_logical, part_extents, AreFactsOf, AreTellable}

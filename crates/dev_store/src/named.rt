@@ -10,9 +10,9 @@ ghost use Rattle.dev_store.specs.StoreCalls.{kind_of};
 ghost use Rattle.dev_store.specs.ToldRows.{told_device, part_extents, AreSummed};
 
 use crate::layout::PhysicalPart;
+use crate::units::extents_of;
 use crate::variables_find::{has_logical, has_part, size_of};
 use crate::variables_row::Facts;
-use crate::variables_told::extents_of;
 use fb_frame::name::Name;
 use super_meta::table::{Extent, Group, Partition, Table};
 

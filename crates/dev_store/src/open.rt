@@ -3,7 +3,7 @@ ghost use Rattle.std.specs.Result.{IsErrOf};
 ghost use Rattle.fb_frame.specs.Causes.{Rose};
 ghost use Rattle.dev_model.specs.declared.bad_image.BadImage.{BadImage};
 ghost use Rattle.dev_disk.specs.Files.{StaysTorn};
-ghost use Rattle.dev_disk.specs.Disks.{open_bytes, FilesKept};
+ghost use Rattle.dev_disk.specs.Disks.{open_bytes};
 ghost use Rattle.dev_store.specs.Layouts.{image_size};
 ghost use Rattle.dev_store.specs.Faults.{IsHonest};
 ghost use Rattle.dev_store.specs.Opening.{IsAbsent, IsBadImage, OpensImage, LeavesImage};

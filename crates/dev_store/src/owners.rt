@@ -1,8 +1,8 @@
-ghost use Rattle.std.specs.Prelude.{◌≡◌, ℕ, ◌+◌, ◌^◌, ◌<◌, ◌≤◌, ◌&&◌, length, [], ◌∷◌, not, IsTrue};
+ghost use Rattle.std.specs.Prelude.{◌≡◌, ◌+◌, ◌^◌, ◌<◌, ◌≤◌, ◌&&◌, length, [], ◌∷◌, not, IsTrue};
 ghost use Rattle.std.specs.Prelude.{vec_capacity};
 ghost use Rattle.std.specs.Prelude.{Some, None, true, false, IfOk, IfSome, MatchOption};
 ghost use Rattle.std.specs.List.{list_all, flat_map, range_with_len};
-ghost use Rattle.unit_alloc.specs.Owning.{is_owned, handed, unowned};
+ghost use Rattle.unit_alloc.specs.Owning.{is_owned, handed};
 ghost use Rattle.super_meta.specs.Contents.{content};
 ghost use Rattle.dev_store.specs.LayoutLines.{unit_count};
 ghost use Rattle.dev_store.specs.Supers.{units_in, units_of, is_at_unit, lies_in_units, are_different};

@@ -1,11 +1,11 @@
-ghost use Rattle.std.specs.Prelude.{◌≡◌, ◌⊎◌, ℕ, ◌+◌, ◌^◌, ◌<◌, ◌≤◌, length, true, false, Some, Err};
+ghost use Rattle.std.specs.Prelude.{◌≡◌, ◌⊎◌, ◌+◌, ◌^◌, ◌<◌, ◌≤◌, length, false, Some, Err};
 ghost use Rattle.std.specs.Prelude.{IsTrue, IfOk, IfSome, OnErr};
-ghost use Rattle.std.specs.Result.{IsErrOf, result_ok};
+ghost use Rattle.std.specs.Result.{IsErrOf};
 ghost use Rattle.fb_frame.specs.Causes.{Rose};
 ghost use Rattle.dev_disk.specs.Files.{IsInside, copy};
 ghost use Rattle.dev_disk.specs.Disks.{open_bytes, FilesKept};
 ghost use Rattle.super_meta.specs.Contents.{content, is_sound};
-ghost use Rattle.super_meta.specs.TableText.{table_of, table_size};
+ghost use Rattle.super_meta.specs.TableText.{table_size};
 ghost use Rattle.super_meta.specs.TableBytes.{TableBytes};
 ghost use Rattle.dev_model.specs.declared.bad_image.BadImage.{BadImage};
 ghost use Rattle.dev_model.specs.declared.bad_image.BadImage.TheVariants.{BadUnits};

@@ -1,8 +1,7 @@
-ghost use Rattle.std.specs.Prelude.{◌≡◌, ◌+◌, ◌≤◌, ◌++◌, ◌∷◌, [], length, option_map, slice_get};
-ghost use Rattle.arrayvec.specs.ArrayVec.{array_vec_len};
+ghost use Rattle.std.specs.Prelude.{◌≡◌, ◌≤◌, length, option_map, slice_get};
 ghost use Rattle.dev_model.specs.Variables.{all_rows};
 ghost use Rattle.dev_store.specs.StoreCalls.{Shows, info_text};
-ghost use Rattle.dev_store.specs.ToldRows.{row_of, text_of, told_device, AreTellable};
+ghost use Rattle.dev_store.specs.ToldRows.{row_of, told_device, AreTellable};
 
 use crate::variables_base::base_row_at;
 use crate::variables_find::add_text;

@@ -1,11 +1,10 @@
-ghost use Rattle.std.specs.Prelude.{◌≡◌, ◌<◌, ◌≤◌, ◌++◌, ◌∷◌, [], ◌&&◌, ◌||◌, nat_lt, nat_eq, None};
-ghost use Rattle.std.specs.Prelude.{Some, option_map, slice_get, length, map, take, filter_map};
-ghost use Rattle.std.specs.Prelude.{if◌then◌else◌, bytes_eq, codes};
+ghost use Rattle.std.specs.Prelude.{◌≡◌, ◌<◌, ◌&&◌, ◌||◌, None};
+ghost use Rattle.std.specs.Prelude.{Some, option_map, slice_get, map, take, filter_map};
+ghost use Rattle.std.specs.Prelude.{if◌then◌else◌, bytes_eq};
 ghost use Rattle.std.specs.List.{ends_with, list_any};
-ghost use Rattle.fb_frame.specs.Slots.{suffix};
 ghost use Rattle.dev_model.specs.Variables.{base_name, base_names, has_slot_row};
 ghost use Rattle.dev_store.specs.StoreCalls.{names_of};
-ghost use Rattle.dev_store.specs.ToldRows.{row_of, text_of, told_device};
+ghost use Rattle.dev_store.specs.ToldRows.{row_of, told_device};
 
 use crate::variables_find::has_slot;
 use crate::variables_row::{Facts, Row};

@@ -1,22 +1,19 @@
-ghost use Rattle.std.specs.Prelude.{◌≡◌, ◌++◌, ◌∷◌, [], ◌+◌, ◌*◌, ◌<◌, ◌≤◌, ◌^◌, ◌&&◌, ◌||◌, false};
-ghost use Rattle.std.specs.Prelude.{true, option_map, codes, length, map, bytes_eq, drop};
+ghost use Rattle.std.specs.Prelude.{◌≡◌, ◌++◌, ◌+◌, ◌*◌, ◌<◌, ◌≤◌, ◌^◌, ◌&&◌, ◌||◌, false};
+ghost use Rattle.std.specs.Prelude.{true, option_map, length, bytes_eq};
 ghost use Rattle.std.specs.Map.{lookup};
 ghost use Rattle.std.specs.List.{list_any};
 ghost use Rattle.fb_frame.specs.Slots.{suffix};
 ghost use Rattle.fb_frame.specs.declared.slot.Slot.TheVariants.{A, B};
 ghost use Rattle.arrayvec.specs.ArrayVec.{array_vec_len};
 ghost use Rattle.dev_model.specs.Partitions.{is_partition};
-ghost use Rattle.dev_model.specs.Variables.{yes_or_no, plain_rows, has_slot, slotted_name, value};
+ghost use Rattle.dev_model.specs.Variables.{yes_or_no, plain_rows, has_slot};
 ghost use Rattle.dev_store.specs.Supers.{bytes_in};
-ghost use Rattle.dev_store.specs.ToldRows.{text_of, told_device, told_physical, told_logical, AreTellable};
+ghost use Rattle.dev_store.specs.ToldRows.{text_of, told_device, AreTellable};
 
 use crate::layout::PhysicalPart;
 use crate::variables_row::{Extents, Facts, Row, Step, Text};
-use crate::variables_text::{Draft, add, add_decimal, add_size, finish};
+use crate::variables_text::{Draft, add, add_decimal, add_size};
 use crate::variables_told::plain_step;
-use arrayvec::ArrayVec;
-use fb_frame::name::Name;
-use fb_message::line::Line;
 use super_meta::table::{Extent, Partition};
 
 /// Whether a name is these two parts, one after the other.

@@ -1,11 +1,11 @@
-ghost use Rattle.std.specs.Prelude.{◌≡◌, ◌≤◌, ◌++◌, ◌∷◌, [], length, Some, option_map, option_and_then};
+ghost use Rattle.std.specs.Prelude.{◌≡◌, ◌≤◌, length, Some, option_and_then};
 ghost use Rattle.dev_model.specs.Variables.{yes_or_no, has_slot, slotted_name, value};
 ghost use Rattle.dev_store.specs.StoreCalls.{Shows};
-ghost use Rattle.dev_store.specs.ToldRows.{text_of, row_of, told_device, AreTellable};
+ghost use Rattle.dev_store.specs.ToldRows.{text_of, told_device, AreTellable};
 
 use crate::variables_find::{add_text, find_plain, has_slot};
-use crate::variables_row::{Facts, Row, Text};
-use crate::variables_text::{add, finish};
+use crate::variables_row::{Facts, Text};
+use crate::variables_text::finish;
 use crate::variables_told::yes_or_no;
 use arrayvec::ArrayVec;
 use fb_frame::name::Name;

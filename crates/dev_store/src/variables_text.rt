@@ -1,4 +1,4 @@
-ghost use Rattle.std.specs.Prelude.{◌≡◌, ◌+◌, ◌≤◌, ◌<◌, ◌++◌, [], length, drop, decimal};
+ghost use Rattle.std.specs.Prelude.{◌≡◌, ◌+◌, ◌≤◌, ◌<◌, ◌++◌, length, drop, decimal};
 ghost use Rattle.std.specs.Fmt.{digits, digit_glyph};
 ghost use Rattle.fb_frame.specs.Numbers.{size_text};
 ghost use Rattle.arrayvec.specs.ArrayVec.{array_vec_len};

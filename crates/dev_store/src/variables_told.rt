@@ -1,7 +1,6 @@
-ghost use Rattle.std.specs.Prelude.{◌≡◌, ◌++◌, ◌∷◌, [], ◌+◌, ◌<◌, ◌≤◌, ◌^◌, List, Some, None};
-ghost use Rattle.std.specs.Prelude.{option_map, slice_get, ◌==◌, false, true, length, map, flat_map};
-ghost use Rattle.std.specs.Prelude.{not, codes, if◌then◌else◌, decimal};
-ghost use Rattle.fb_frame.specs.Bytes.{zeros};
+ghost use Rattle.std.specs.Prelude.{◌≡◌, ◌++◌, ◌∷◌, [], ◌+◌, ◌<◌, ◌^◌, List, Some, None};
+ghost use Rattle.std.specs.Prelude.{slice_get, ◌==◌, false, true, map, flat_map};
+ghost use Rattle.std.specs.Prelude.{not, codes, if◌then◌else◌};
 ghost use Rattle.fb_frame.specs.Numbers.{size_text};
 ghost use Rattle.fb_frame.specs.Slots.{letter};
 ghost use Rattle.fb_frame.specs.declared.slot.Slot.TheVariants.{A, B};
@@ -14,6 +13,7 @@ ghost use Rattle.std.specs.List.{AllByRecursion};
 ghost use Rattle.dev_store.specs.Supers.{bytes_in};
 
 use crate::layout::PhysicalPart;
+use crate::units::extents_of;
 use crate::variables_row::{Extents, Facts, Row, Step, Text};
 use dev_model::device::{SlotFlags, Variable};
 use fb_frame::slot::Slot;
@@ -282,16 +282,6 @@ fn physical_step<'a>(parts: &'a [PhysicalPart], place: usize) -> Step<'a>
     } else {
         Step::Later(place - 3 * parts.len())
     }
-}
-
-/// The extents of a partition.
-pub fn extents_of<'a>(extents: &'a [Extent], part: &Partition) -> &'a [Extent]
-    ensures { result.now ≡ part_extents extents.now part.now }
-{
-    let first = (part.first as usize).min(extents.len());
-    let rest = &extents[first..];
-    let count = (part.count as usize).min(rest.len());
-    &rest[..count]
 }
 
 fn counted<'a>(extents: &'a [Extent]) -> Text<'a>

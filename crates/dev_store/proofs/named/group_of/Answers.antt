@@ -1,4 +1,4 @@
-use Rattle.std.proofs.Common.{◌≡◌, ◌<◌, ◌∙◌, sym, ap, length, find, subst, Some}
+use Rattle.std.proofs.Common.{◌<◌, ◌∙◌, sym, ap, length, find, subst, Some}
 use Rattle.std.specs.Prelude.{bytes_eq, option_map, nat_lt}
 use Rattle.super_meta.specs.Held.{group_name}
 use Rattle.dev_store.proofs.NamedLemmas.{find-passes, below}

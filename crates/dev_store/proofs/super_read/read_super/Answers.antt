@@ -1,5 +1,3 @@
-use Rattle.std.proofs.Common.{◌≡◌, ◌∙◌, sym, ap}
-use Rattle.dev_model.specs.declared.bad_image.BadImage.TheVariants.{NoGeometry, NoTable}
 use Rattle.dev_disk.specs.Disks.{open_bytes}
 use Rattle.dev_disk.proofs.TwinLemmas.{same-bytes, FilesKept-then}
 use Rattle.dev_store.proofs.UnitLemmas.{bounded}

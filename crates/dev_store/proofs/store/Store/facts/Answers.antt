@@ -1,9 +1,6 @@
-use Rattle.std.proofs.Common.{◌≡◌, ◌∙◌, sym, ap, subst, List, ℕ, length, Option, option_map}
-use Rattle.super_meta.specs.Contents.{Content}
-use Rattle.dev_model.specs.declared.device.Dev.{Dev}
+use Rattle.std.proofs.Common.{◌∙◌, sym, ap, subst, length, option_map}
 use Rattle.dev_model.specs.Partitions.{bytes_of}
 use Rattle.dev_model.specs.Variables.{value, all_rows}
-use Rattle.dev_disk.specs.Disks.{open_bytes}
 use Rattle.dev_store.specs.Reading.{table_within}
 use Rattle.dev_store.specs.StoreCalls.{started_in, names_of, kind_of}
 use Rattle.dev_store.specs.ToldRows.{AreFactsOf}

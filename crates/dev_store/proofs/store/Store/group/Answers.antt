@@ -1,4 +1,4 @@
-use Rattle.std.proofs.Common.{◌≡◌, ◌∙◌, ap}
+use Rattle.std.proofs.Common.{◌∙◌, ap}
 use Rattle.std.specs.Prelude.{slice_get, option_map}
 use Rattle.super_meta.specs.Held.{limited}
 use Rattle.dev_store.proofs.ToldStore.{group-within}

@@ -1,4 +1,4 @@
-use Rattle.std.proofs.Common.{◌≡◌, ◌∙◌, ap, find, option_map}
+use Rattle.std.proofs.Common.{◌∙◌, ap, find, option_map}
 use Rattle.super_meta.specs.Held.{group_name}
 use Rattle.dev_store.specs.StoreCalls.{group_of}
 use Rattle.dev_store.proofs.OpenOwns.{at-name}

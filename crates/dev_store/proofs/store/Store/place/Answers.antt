@@ -1,5 +1,5 @@
-use Rattle.std.proofs.Common.{◌≡◌, ◌∙◌, ap}
-use Rattle.std.specs.Prelude.{bytes_eq, slice_get, position}
+use Rattle.std.proofs.Common.{◌∙◌, ap}
+use Rattle.std.specs.Prelude.{slice_get, position}
 use Rattle.std.specs.Option.{option_and_then}
 use Rattle.dev_store.specs.Held.{part_of}
 use Rattle.dev_store.proofs.OpenOwns.{at-name}

@@ -1,4 +1,4 @@
-use Rattle.std.proofs.Common.{◌≡◌, ◌∙◌, ap}
+use Rattle.std.proofs.Common.{◌∙◌, ap}
 use Rattle.dev_store.specs.States.{kept_state}
 use Rattle.dev_store.specs.Reading.{table_within}
 use Rattle.dev_store.proofs.ToldStore.{state-kept}
