@@ -13,6 +13,7 @@ use super_meta::table::Table;
 
 /// How many logical partitions and groups a device has at most.
 const PARTITIONS: usize = 128;
+
 const GROUPS: usize = 64;
 
 /// Makes room in a table for that many more partitions and groups, and for an extent of each unit.
