@@ -115,11 +115,11 @@ ceil-is bytes n unit pos low high =
     omega arith
 
 -- a run holds as many bytes as its units, or all that are left
-record IsRunCut (bytes unit count more : ℕ) : Type 0 where
-  here : div_ceil (min bytes (count * unit)) unit ≡ count
-  rest : div_ceil (bytes - count * unit) unit ≡ more
+pub record IsRunCut (bytes unit count more : ℕ) : Type 0 where
+  pub here : div_ceil (min bytes (count * unit)) unit ≡ count
+  pub rest : div_ceil (bytes - count * unit) unit ≡ more
 
-run-cut : (bytes unit count more : ℕ) → 0 < unit → div_ceil bytes unit ≡ count + more → IsRunCut bytes unit count more
+pub run-cut : (bytes unit count more : ℕ) → 0 < unit → div_ceil bytes unit ≡ count + more → IsRunCut bytes unit count more
 run-cut bytes unit count more pos h =
     let d = div_ceil_times bytes unit pos in
     let e = ap (λ n. n * unit) h in
@@ -145,13 +145,13 @@ sectored s b =
     record { unit = unit; some = some; first = first-whole s unit some }
 
 -- the extent of a run that holds so many bytes
-abbrev extent_for : SuperPart → ℕ → Run → Extent
+abbrev pub extent_for : SuperPart → ℕ → Run → Extent
 extent_for s bytes run = record { sectors = min bytes (run.count * s.unit) / 512; target = (first_unit s + run.unit * s.unit) / 512 }
 
-sectors-of : (s : SuperPart) (bytes : ℕ) (run : Run) → IsSectored s → bytes % 512 ≡ 0 → 512 * (extent_for s bytes run).sectors ≡ min bytes (run.count * s.unit)
+pub sectors-of : (s : SuperPart) (bytes : ℕ) (run : Run) → IsSectored s → bytes % 512 ≡ 0 → 512 * (extent_for s bytes run).sectors ≡ min bytes (run.count * s.unit)
 sectors-of s bytes run h k = let w = times-whole run.count s.unit h.unit in omega (arith, w, k)
 
-unit-of : (s : SuperPart) (bytes : ℕ) (run : Run) → IsSectored s → unit_at s (extent_for s bytes run) ≡ run.unit
+pub unit-of : (s : SuperPart) (bytes : ℕ) (run : Run) → IsSectored s → unit_at s (extent_for s bytes run) ≡ run.unit
 unit-of s bytes run h =
     let w = times-whole run.unit s.unit h.unit in
     let f = h.first in
@@ -194,11 +194,11 @@ extents-many s bytes [] = refl
 extents-many s bytes (run ∷ runs) = ap suc (extents-many s (bytes - run.count * s.unit) runs)
 
 -- the group at the place of a name has the name
-record IsPlace (groups : List TableGroup) (name : List ℕ) (place : ℕ) : Type 0 where
-  inside : place < length groups
-  named : slice_index_or (map (λ g. g.name) (map as_group groups)) place [] ≡ name
+pub record IsPlace (groups : List TableGroup) (name : List ℕ) (place : ℕ) : Type 0 where
+  pub inside : place < length groups
+  pub named : slice_index_or (map (λ g. g.name) (map as_group groups)) place [] ≡ name
 
-place-found : (groups : List TableGroup) (name : List ℕ) → is_group groups name ≡ true → IsPlace groups name (position_or_len (λ g. bytes_eq g.name name) groups)
+pub place-found : (groups : List TableGroup) (name : List ℕ) → is_group groups name ≡ true → IsPlace groups name (position_or_len (λ g. bytes_eq g.name name) groups)
 place-found [] name h = absurd cc
 place-found (g ∷ groups) name h = by (bytes_eq g.name name) refl h (place-found groups name)
   where
