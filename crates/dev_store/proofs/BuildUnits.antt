@@ -15,7 +15,7 @@ use Rattle.dev_store.specs.Supers.{extents_of, bytes_in, units_in, units_of}
 use Rattle.dev_store.specs.Runs.{Run, run_on, runs_of, extents_for, group_place, entries_for, beside, table_for}
 use Rattle.dev_store.specs.Building.{run_of}
 use Rattle.dev_store.specs.TableChanges.{IsFitted, AreFitted}
-use Rattle.dev_store.proofs.ChangeTable.{IsSectored, run_total, runs-units, runs-total, extents-units, extents-bytes, extents-many}
+use Rattle.dev_store.proofs.ChangeTable.{IsSectored, run_total, runs-total, extents-many}
 
 on-few : (u : ℕ) (runs : List Run) → length (run_on u runs) ≤ suc (length runs)
 on-few u [] = omega arith
@@ -88,34 +88,9 @@ fitted-same unit f g same (p ∷ logical) (units ∷ lists) h =
     let more = fitted-same unit f g same logical lists h.1 in
     λ i. one i ∷ more i
 
-pub fitted-lists : (unit : ℕ) (logical : List Logical) (lists : List (List ℕ)) → AreFitted unit logical lists → map (λ x. x.1) (beside logical lists) ≡ lists
-fitted-lists unit [] [] h = refl
-fitted-lists unit [] (units ∷ lists) h = absurd h
-fitted-lists unit (p ∷ logical) [] h = absurd h
-fitted-lists unit (p ∷ logical) (units ∷ lists) h = ap (λ l. units ∷ l) (fitted-lists unit logical lists h.1)
-
-pub beside-logical : (logical : List Logical) (lists : List (List ℕ)) → map (λ x. x.0) (beside logical lists) ≡ logical
-beside-logical [] lists = refl
-beside-logical (p ∷ logical) [] = ap (λ l. p ∷ l) (beside-logical logical [])
-beside-logical (p ∷ logical) (units ∷ lists) = ap (λ l. p ∷ l) (beside-logical logical lists)
-
 -- a length of whole blocks is whole sectors, and the runs have as many units as hold it
 pub fitted-sectors : (unit : ℕ) (p : Logical) (units : List ℕ) → IsFitted unit p units → length p.bytes % 512 ≡ 0
 fitted-sectors unit p units h = let w = h.whole in omega arith
 
 pub fitted-total : (unit : ℕ) (p : Logical) (units : List ℕ) → IsFitted unit p units → div_ceil (length p.bytes) unit ≡ run_total (runs_of units)
 fitted-total unit p units h = sym h.many ∙ sym (runs-total units)
-
-pub fitted-units : (s : SuperPart) (p : Logical) (units : List ℕ) → IsSectored s → IsFitted s.unit p units → flat_map (units_in s) (extents_with s (p, units)) ≡ units
-fitted-units s p units n h = extents-units s (length p.bytes) (runs_of units) n (fitted-sectors s.unit p units h) (fitted-total s.unit p units h) ∙ runs-units units
-
-pub fitted-bytes : (s : SuperPart) (p : Logical) (units : List ℕ) → IsSectored s → IsFitted s.unit p units → bytes_in (extents_with s (p, units)) ≡ length p.bytes
-fitted-bytes s p units n h = extents-bytes s (length p.bytes) (runs_of units) n (fitted-sectors s.unit p units h) (fitted-total s.unit p units h)
-
--- the units that the table gives each partition are those that were written
-pub units-written : (s : SuperPart) (dev : Dev) (lists : List (List ℕ)) → IsSectored s → AreFitted s.unit dev.logical lists → map (units_of s (table_for s dev lists)) (table_for s dev lists).partitions ≡ lists
-unfolding units_of
-units-written s dev lists n h =
-    entries-written s dev lists (λ p x. flat_map (units_in s) x) (λ at x. refl)
-    ∙ (fitted-same s.unit (λ x. flat_map (units_in s) (extents_with s x)) (λ x. x.1) (λ p units e. fitted-units s p units n e) dev.logical lists h
-    ∙ fitted-lists s.unit dev.logical lists h)

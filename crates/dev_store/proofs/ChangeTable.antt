@@ -254,10 +254,11 @@ entries-from s c groups before at (p ∷ logical) (units ∷ lists) h fit known 
     let k = both (is_group groups p.group) _ known in
     let here : take count (drop at c.extents) ≡ own =
     (λ i. take (sym many i) (drop (a i) (x i))) ∙ (ap (take (length own)) (drop-append_seam before (own ++ rest)) ∙ take-append_seam own rest) in
-    let next : at + count ≡ length (before ++ own) = (λ i. a i + sym many i) ∙ sym (length-append before own) in
-    (entry-is s c (record { name = p.name; attributes = p.attributes; first = at; count = count; group = group_place groups p.group }) p units h fit.0 refl refl
-    (ap (λ gs. group_name gs (group_place groups p.group)) g ∙ group-named groups p.group k.0) here,
-    entries-from s c groups (before ++ own) (at + count) logical lists h fit.1 k.1 g next (x ∙ sym (append_assoc before own rest)))
+    let next : at + count ≡ length (before ++ own) = (λ i. a i + sym many i) ∙ sym (length-append before own) in (
+      entry-is s c (record { name = p.name; attributes = p.attributes; first = at; count = count; group = group_place groups p.group }) p units h fit.0 refl refl
+          (ap (λ gs. group_name gs (group_place groups p.group)) g ∙ group-named groups p.group k.0) here,
+      entries-from s c groups (before ++ own) (at + count) logical lists h fit.1 k.1 g next (x ∙ sym (append_assoc before own rest)),
+    )
 
 pub entries-read : (s : SuperPart) (dev : Dev) (lists : List (List ℕ)) → IsSectored s → AreFitted s.unit dev.logical lists → list_all (λ p. is_group dev.groups p.group) dev.logical ≡ true →
     AreEntriesOf s (table_for s dev lists) (table_for s dev lists).partitions dev.logical lists

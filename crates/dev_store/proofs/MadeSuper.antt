@@ -239,7 +239,7 @@ is-alike s n =
       copies = λ k h. copy-reads s k n h;
     }
 
-own-is : (s : SuperPart) → is_own_device s (own_device s) ≡ true
+pub own-is : (s : SuperPart) → is_own_device s (own_device s) ≡ true
 own-is s =
     let same_name : bytes_eq s.name s.name ≡ true = (bytes_eq-Decides s.name s.name).1 refl in
     and-true _ (bytes_eq s.name s.name)

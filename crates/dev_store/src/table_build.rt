@@ -104,8 +104,8 @@ impl SuperPart {
         requires units { length (content next.old).extents + length (units_of owners.now planned.now.part)
             ≤ unit_count self.now }
         ensures table { content next.new ≡ record (content next.old) {
-            extents = (content next.old).extents
-                ++ extents_for self.now planned.now.bytes (runs_of (units_of owners.now planned.now.part));
+          extents = (content next.old).extents
+              ++ extents_for self.now planned.now.bytes (runs_of (units_of owners.now planned.now.part));
         } }
         ensures first { result.0 ≡ length (content next.old).extents }
         ensures count { result.1 ≡ length (runs_of (units_of owners.now planned.now.part)) }

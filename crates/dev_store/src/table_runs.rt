@@ -48,8 +48,8 @@ impl SuperPart {
     fn run_extent(&self, unit: u32, count: u32, left: u64) -> Extent
         requires { IsBounded self.now }
         ensures { result ≡ record {
-            sectors = min left (count * self.now.unit) / 512;
-            target = (first_unit self.now + unit * self.now.unit) / 512;
+          sectors = min left (count * self.now.unit) / 512;
+          target = (first_unit self.now + unit * self.now.unit) / 512;
         } }
     {
         Extent {
