@@ -1,15 +1,14 @@
 -- The extents of runs of units: they lie at whole units, in the super, and apart from each other.
-use Rattle.std.proofs.Common.{◌≡◌, ℕ, zero, suc, ◌+◌, ◌-◌, ◌*◌, ◌/◌, ◌%◌, ◌<◌, ◌≤◌, Bool, true, false, not, List, [], ◌∷◌, ◌++◌, length, map, refl, sym, ap, ◌∙◌, ◌⊎◌, inl, inr, arith, min, max}
+use Rattle.std.proofs.Common.{◌≡◌, ℕ, zero, suc, ◌+◌, ◌-◌, ◌*◌, ◌/◌, ◌%◌, ◌<◌, ◌≤◌, Bool, true, false, not, List, [], ◌∷◌, ◌++◌, refl, ap, ◌∙◌, ◌⊎◌, inl, inr, arith, min, max}
 use Rattle.std.specs.Prelude.{◌&&◌, ◌||◌, ◌==◌, nat_lt, nat_le, if◌then◌else◌}
 use Rattle.std.specs.List.{list_all, list_any, flat_map, range_with_len}
 use Rattle.std.specs.Int.{div_ceil}
 use Rattle.std.proofs.Math.Nat.{mul-le-mul_right, mul-mod_left, lt_of_mul-lt-mul_right, mul-div_cancel}
 use Rattle.std.proofs.lemmas.Bool.{cases_lt}
 use Rattle.std.proofs.lemmas.Bool.Decides.{nat_tests}
-use Rattle.std.proofs.lemmas.Grind.{flat_map-append}
 use Rattle.std.proofs.lemmas.List.Sums.{sum_by-cons}
 use Rattle.unit_alloc.specs.Owning.{times_in}
-use Rattle.unit_alloc.proofs.TimesLemmas.{times_in-nil, times_in-cons, times_in-append}
+use Rattle.unit_alloc.proofs.TimesLemmas.{times_in-cons, times_in-append}
 use Rattle.dev_model.proofs.Valid.{both, and-true}
 use Rattle.super_meta.specs.declared.table.Extent.{Extent}
 use Rattle.super_meta.specs.Contents.{shares, are_apart, lies_in}
@@ -20,7 +19,7 @@ use Rattle.dev_store.specs.SuperBounds.{IsBounded}
 use Rattle.dev_store.specs.Runs.{Run, run_on, runs_of, extents_for}
 use Rattle.dev_store.specs.Building.{run_of}
 use Rattle.dev_store.proofs.ValidUnits.{ceil-le}
-use Rattle.dev_store.proofs.ChangeTable.{IsSectored, run_units, run_total, times-whole, run-cut, extent_for, sectors-of, first-whole}
+use Rattle.dev_store.proofs.ChangeTable.{IsSectored, run_units, run_total, times-whole, run-cut, extent_for, sectors-of}
 
 -- ---- runs whose units are there
 

@@ -1,14 +1,10 @@
--- The table that is written is a good and sound one, and a copy has room for it.
-use Rattle.std.proofs.Common.{◌≡◌, ℕ, zero, suc, ◌+◌, ◌-◌, ◌*◌, ◌/◌, ◌%◌, ◌<◌, ◌≤◌, Bool, true, false, not, List, [], ◌∷◌, ◌++◌, length, map, refl, sym, ap, subst, ◌∙◌, ◌⊎◌, inl, inr, arith, length-append}
-use Rattle.std.specs.Prelude.{◌&&◌, ◌||◌, ◌==◌, ◌^◌, nat_lt, nat_le, bytes_eq, sum_by, IsTrue}
-use Rattle.std.specs.List.{list_all, list_any, flat_map}
+-- Where the extents of the table that is written lie, and how many there are.
+use Rattle.std.proofs.Common.{◌≡◌, ℕ, ◌%◌, ◌≤◌, Bool, true, List, [], ◌∷◌, ◌++◌, length, map, refl, sym, ap, subst, ◌∙◌, arith, length-append}
+use Rattle.std.specs.Prelude.{◌&&◌, ◌==◌, nat_lt}
+use Rattle.std.specs.List.{list_all, flat_map}
 use Rattle.std.proofs.lemmas.Bool.Decides.{nat_tests}
 use Rattle.std.proofs.lemmas.Grind.{flat_map-append}
 use Rattle.std.proofs.lemmas.List.Folds.{list_all-append}
-use Rattle.std.proofs.lemmas.List.{length-map}
-use Rattle.std.proofs.lemmas.Slice.Eq.{bytes_eq-Decides}
-use Rattle.fb_frame.specs.Distinct.{are_distinct}
-use Rattle.fb_frame.specs.declared.tables.TableGroup.{TableGroup}
 use Rattle.unit_alloc.specs.Owning.{times_in}
 use Rattle.dev_model.specs.declared.device.Logical.{Logical}
 use Rattle.dev_model.specs.declared.device.Dev.{Dev}
@@ -17,10 +13,10 @@ use Rattle.super_meta.specs.declared.table.Extent.{Extent}
 use Rattle.super_meta.specs.Contents.{are_laid}
 use Rattle.dev_store.specs.declared.layout.SuperPart.{SuperPart}
 use Rattle.dev_store.specs.LayoutLines.{unit_count}
-use Rattle.dev_store.specs.Supers.{bytes_in, is_at_unit, lies_in_units, are_whole, are_different, extents_of, is_placed}
+use Rattle.dev_store.specs.Supers.{bytes_in, is_at_unit, lies_in_units, are_whole, is_placed}
 use Rattle.dev_store.specs.SuperBounds.{IsBounded}
 use Rattle.dev_store.specs.Runs.{Run, runs_of, beside, table_for}
-use Rattle.dev_store.specs.TableChanges.{IsFitted, AreFitted}
+use Rattle.dev_store.specs.TableChanges.{AreFitted}
 use Rattle.dev_store.specs.Building.{AreGiven}
 use Rattle.dev_store.proofs.ValidUnits.{few, times-once}
 use Rattle.dev_store.proofs.ChangeTable.{IsSectored, sectored, run_units, runs-units, extents-bytes, extents-many}

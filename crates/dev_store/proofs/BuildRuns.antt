@@ -1,13 +1,12 @@
 -- Maximal runs of units, from a place on.
-use Rattle.std.proofs.Common.{◌≡◌, ℕ, zero, suc, ◌+◌, ◌-◌, ◌*◌, ◌/◌, ◌<◌, ◌≤◌, Bool, true, false, List, [], ◌∷◌, ◌++◌, length, get_or, take, drop, refl, sym, ap, ◌∙◌, arith, add-one, drop_of_length-le, append-nil, append_assoc}
-use Rattle.std.specs.Prelude.{◌==◌, min, if◌then◌else◌}
+use Rattle.std.proofs.Common.{◌≡◌, ℕ, suc, ◌+◌, ◌<◌, ◌≤◌, Bool, true, false, List, [], ◌∷◌, ◌++◌, length, get_or, drop, refl, sym, ap, ◌∙◌, arith, drop_of_length-le, append-nil}
+use Rattle.std.specs.Prelude.{◌==◌, if◌then◌else◌}
 use Rattle.std.proofs.Math.Seq.{drop-cons}
 use Rattle.std.proofs.lemmas.List.{drop-drop}
 use Rattle.std.proofs.lemmas.Bool.Decides.{nat_tests}
 use Rattle.unit_alloc.specs.Owning.{run_from}
 use Rattle.super_meta.specs.declared.table.Extent.{Extent}
 use Rattle.dev_store.specs.declared.layout.SuperPart.{SuperPart}
-use Rattle.dev_store.specs.LayoutLines.{first_unit}
 use Rattle.dev_store.specs.Runs.{Run, run_on, runs_of, extents_for}
 use Rattle.dev_store.specs.Building.{run_of}
 

@@ -1,5 +1,5 @@
 -- The table that is written for a device is good and sound, and a copy has room for it.
-use Rattle.std.proofs.Common.{◌≡◌, ℕ, zero, suc, ◌+◌, ◌*◌, ◌<◌, ◌≤◌, Bool, true, false, not, List, [], ◌∷◌, ◌++◌, length, map, refl, sym, ap, subst, ◌∙◌, ◌⊎◌, inl, inr, arith, length-append, cond, Some, None}
+use Rattle.std.proofs.Common.{◌≡◌, ℕ, ◌+◌, ◌*◌, ◌≤◌, Bool, true, false, not, List, [], ◌∷◌, ◌++◌, length, map, refl, sym, ap, subst, ◌∙◌, ◌⊎◌, inl, inr, arith, length-append, cond, Some, None}
 use Rattle.std.specs.Prelude.{◌&&◌, ◌||◌, ◌==◌, ◌^◌, nat_lt, nat_le, bytes_eq, if◌then◌else◌, option_to_list, unwrap_or, IsTrue}
 use Rattle.std.specs.List.{list_all, list_any, flat_map, position_or_len}
 use Rattle.std.proofs.lemmas.Bool.Decides.{nat_tests}
@@ -14,11 +14,10 @@ use Rattle.dev_model.specs.declared.device.Dev.{Dev}
 use Rattle.dev_model.specs.Sizes.{sizes_of, groups_fit}
 use Rattle.dev_model.specs.Tables.{is_group}
 use Rattle.dev_model.specs.Validity.{IsValid, is_entry, is_whole, all_names}
-use Rattle.dev_model.proofs.Names.{Mem, Apart, mem-append, mem-left, mem-right, distinct-left, distinct-right, distinct-apart}
+use Rattle.dev_model.proofs.Names.{Mem, Apart, mem-append, mem-right, distinct-left, distinct-right, distinct-apart}
 use Rattle.dev_model.proofs.Valid.{both, and-true}
 use Rattle.super_meta.specs.declared.table.Partition.{Partition}
-use Rattle.super_meta.specs.declared.table.Group.{Group}
-use Rattle.super_meta.specs.Contents.{Content, is_sound, are_named_apart, are_indexed, are_grouped, are_known, are_laid, take_in_turn, tables_size}
+use Rattle.super_meta.specs.Contents.{Content, is_sound, are_named_apart, are_indexed, are_known, are_laid, take_in_turn, tables_size}
 use Rattle.super_meta.specs.Held.{limited}
 use Rattle.super_meta.specs.HeaderText.{header_size}
 use Rattle.super_meta.specs.TableText.{table_size}
@@ -28,7 +27,7 @@ use Rattle.dev_store.specs.LayoutLines.{unit_count}
 use Rattle.dev_store.specs.Supers.{units_of, is_barred, size_in, are_different, are_good_units}
 use Rattle.dev_store.specs.SuperBounds.{IsBounded}
 use Rattle.dev_store.specs.Runs.{runs_of, entries_for, group_place, beside, as_group, table_for}
-use Rattle.dev_store.specs.TableChanges.{IsEntryOf, AreEntriesOf, AreFitted}
+use Rattle.dev_store.specs.TableChanges.{IsEntryOf, AreEntriesOf}
 use Rattle.dev_store.specs.Building.{AreGiven, IsOnSuper}
 use Rattle.dev_store.proofs.MadeSuper.{own-is}
 use Rattle.dev_store.proofs.ChangeTable.{sectored, entries-read, extents-many, place-found}

@@ -1,7 +1,7 @@
 -- The extents that are written for a partition, wherever its entry stands in the table.
-use Rattle.std.proofs.Common.{◌≡◌, ℕ, zero, suc, ◌+◌, ◌-◌, ◌*◌, ◌/◌, ◌%◌, ◌<◌, ◌≤◌, Bool, true, false, List, [], ◌∷◌, ◌++◌, length, take, drop, map, refl, sym, ap, ◌∙◌, arith, min, append_assoc, length-append}
-use Rattle.std.specs.Prelude.{◌&&◌, ◌==◌, if◌then◌else◌}
-use Rattle.std.specs.List.{list_all, flat_map}
+use Rattle.std.proofs.Common.{◌≡◌, ℕ, suc, ◌+◌, ◌%◌, ◌≤◌, Bool, true, false, List, [], ◌∷◌, ◌++◌, length, take, drop, map, refl, sym, ap, ◌∙◌, arith, append_assoc, length-append}
+use Rattle.std.specs.Prelude.{◌==◌, if◌then◌else◌}
+use Rattle.std.specs.List.{flat_map}
 use Rattle.std.specs.Int.{div_ceil}
 use Rattle.std.proofs.lemmas.List.{take_at, drop_at}
 use Rattle.fb_frame.specs.declared.tables.TableGroup.{TableGroup}
@@ -9,13 +9,12 @@ use Rattle.dev_model.specs.declared.device.Logical.{Logical}
 use Rattle.dev_model.specs.declared.device.Dev.{Dev}
 use Rattle.super_meta.specs.declared.table.Partition.{Partition}
 use Rattle.super_meta.specs.declared.table.Extent.{Extent}
-use Rattle.super_meta.specs.Contents.{Content}
 use Rattle.dev_store.specs.declared.layout.SuperPart.{SuperPart}
-use Rattle.dev_store.specs.Supers.{extents_of, bytes_in, units_in, units_of}
+use Rattle.dev_store.specs.Supers.{extents_of}
 use Rattle.dev_store.specs.Runs.{Run, run_on, runs_of, extents_for, group_place, entries_for, beside, table_for}
 use Rattle.dev_store.specs.Building.{run_of}
 use Rattle.dev_store.specs.TableChanges.{IsFitted, AreFitted}
-use Rattle.dev_store.proofs.ChangeTable.{IsSectored, run_total, runs-total, extents-many}
+use Rattle.dev_store.proofs.ChangeTable.{run_total, runs-total, extents-many}
 
 on-few : (u : ℕ) (runs : List Run) → length (run_on u runs) ≤ suc (length runs)
 on-few u [] = omega arith

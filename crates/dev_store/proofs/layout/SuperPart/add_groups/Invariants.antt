@@ -1,4 +1,4 @@
-use Rattle.std.proofs.Common.{◌≡◌, ◌+◌, ◌++◌, length, take}
+use Rattle.std.proofs.Common.{◌≡◌, ◌+◌, length, take}
 use Rattle.super_meta.specs.Contents.{content}
 use Rattle.dev_store.specs.LayoutLines.{unit_count}
 use Rattle.dev_store.specs.SuperReads.{HasRoom}

@@ -1,6 +1,6 @@
-use Rattle.std.proofs.Common.{◌≡◌, ◌+◌, ◌-◌, ◌∷◌, ◌∙◌, refl, arith}
+use Rattle.std.proofs.Common.{◌+◌, arith}
 use Rattle.super_meta.specs.Contents.{content}
-use Rattle.dev_store.specs.Building.{planned_as, planned_range}
+use Rattle.dev_store.specs.Building.{planned_range}
 use Rattle.dev_store.proofs.BuildLaws.{range-here, units-here, built-here}
 use Rattle.dev_store.proofs.layout.SuperPart.add_range.Goals as goal
 
