@@ -19,10 +19,10 @@ sum-none g z (l ∷ ls) h =
     omega arith
 
 -- the parts after the first are others
-once-rest : (part : ℕ) (parts : List ℕ) → AreOnce (part ∷ parts) → AreOnce parts
+pub once-rest : (part : ℕ) (parts : List ℕ) → AreOnce (part ∷ parts) → AreOnce parts
 once-rest part parts h i j k e f = let s = h (suc i) (suc j) k e f in omega arith
 
-once-other : (part : ℕ) (parts : List ℕ) → AreOnce (part ∷ parts) → (j k : ℕ) → slice_get parts j ≡ Some k → k ≢ part
+pub once-other : (part : ℕ) (parts : List ℕ) → AreOnce (part ∷ parts) → (j k : ℕ) → slice_get parts j ≡ Some k → k ≢ part
 once-other part parts h j k e f = let s = h 0 (suc j) part refl (e ∙ ap Some f) in omega arith
 
 map-other : (ls : List (List ℕ)) (part : ℕ) (parts : List ℕ) → ((j k : ℕ) → slice_get parts j ≡ Some k → k ≢ part) → map (λ k. get_or (set ls part []) k []) parts ≡ map (λ k. get_or ls k []) parts

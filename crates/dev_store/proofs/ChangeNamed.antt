@@ -50,7 +50,7 @@ by-cons o part parts p logical name many =
         ap (λ k. units_by (Some o) (slice_get (part ∷ parts) k)) n ∙ sym (by-place o parts logical name many)
 
 -- texts that differ, either way round
-eq-false : (a b : List ℕ) → bytes_eq a b ≡ false → bytes_eq b a ≡ false
+pub eq-false : (a b : List ℕ) → bytes_eq a b ≡ false → bytes_eq b a ≡ false
 eq-false a b h = by (bytes_eq b a) refl
   where
     never : (x : Bool) → x ≡ true → x ≡ false → ⊥

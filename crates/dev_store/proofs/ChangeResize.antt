@@ -138,8 +138,9 @@ found-long name (q ∷ ps) p d h = by (bytes_eq q.name name) refl h (found-long 
         (λ x. ap (λ (y : Logical). length y.bytes) is, none-long name (length p.bytes) ps (subst (λ x. not (among x (map (λ q. q.name) ps)) ≡ true) same (both (not (among q.name (map (λ q. q.name) ps))) _ d).0))
     by false e k more = (λ x. absurd (never (bytes_eq q.name name) ((bytes_eq-Decides q.name name).1 x) e), more k)
 
--- What a partition of another length makes of a store.
-pub record IsResized (layout : LayoutValue) (s : SuperPart) (state : State) (now : Owning) (parts new : List ℕ) (dev : Dev) : Type 0 where
+-- What a store comes to where the table is written for a device, over a file: the table gives the device and the
+-- map of units.
+pub record IsWrittenFor (layout : LayoutValue) (s : SuperPart) (state : State) (now : Owning) (parts new : List ℕ) (dev : Dev) : Type 0 where
   pub device : device_in layout state (table_for s dev (map (units_of now) parts)) new ≡ dev
   pub mapped : IsMapOf s (table_for s dev (map (units_of now) parts)) now parts
   pub fitted : AreFitted s.unit dev.logical (map (units_of now) parts)
@@ -153,7 +154,7 @@ grown-many own free count h =
     omega arith
 
 -- the device with other logical partitions
-of-logical : (layout : LayoutValue) (state : State) (old new : List ℕ) (dev : Dev) (ls : List Logical) → IsDeviceOf layout state old dev → physical_at 12288 layout.physical new ≡ physical_at 12288 layout.physical old →
+pub of-logical : (layout : LayoutValue) (state : State) (old new : List ℕ) (dev : Dev) (ls : List Logical) → IsDeviceOf layout state old dev → physical_at 12288 layout.physical new ≡ physical_at 12288 layout.physical old →
     IsDeviceOf layout state new (record dev { logical = ls })
 of-logical layout state old new dev ls h same =
     ap (λ (d : Dev). let e : Dev = record d { logical = ls } in e) h ∙ ap (λ ps. device_with layout state ps (record (value_in dev) { logical = ls })) (sym same)
@@ -175,7 +176,7 @@ part-own o parts ps name part many at = by-place o parts ps name many ∙ ap (un
 pub resize-after : (layout : LayoutValue) (s : SuperPart) (state : State) (c : Content) (o now : Owning) (parts old new name : List ℕ) (part len size : ℕ) → IsStoreSuper layout s state c o parts old →
     slice_get parts (position_or_len (at-name name) (device_in layout state c old).logical) ≡ Some part → now ≡ regrown o part (units_for s.unit (round_up size)) → OneOwner now →
     units_for s.unit (round_up size) ≤ length (units_of o part) + length (free_units o) → IsLong name len (device_in layout state c old).logical →
-    IsPadded layout s (units_of now part) len (round_up size) old new → IsResized layout s state now parts new (apply (Resize name size) (device_in layout state c old))
+    IsPadded layout s (units_of now part) len (round_up size) old new → IsWrittenFor layout s state now parts new (apply (Resize name size) (device_in layout state c old))
 resize-after layout s state c o now parts old new name part len size h at e one room n padded =
     let dev = device_in layout state c old in
     let d = store-device layout s state c o parts old h in
