@@ -167,9 +167,12 @@ image-of r o None sound h m = tt
 image-of r None (Some now) sound h m = absurd m
 image-of r (Some file) (Some now) sound h m = image-of-file r file now sound h m
 
--- a vector that was lent as a slice is as long as it was
+-- a vector that was lent as a slice has its bytes, and is as long as it was
+pub lent-is : (n count : ℕ) (now rest : List ℕ) → length now ≡ n → count ≡ n → take count (now ++ rest) ≡ now
+lent-is n count now rest h e = subst (λ k. take k (now ++ rest) ≡ now) (h ∙ sym e) (take-append_seam now rest)
+
 pub lent-long : (n count : ℕ) (now rest : List ℕ) → length now ≡ n → count ≡ n → length (take count (now ++ rest)) ≡ n
-lent-long n count now rest h e = subst (λ k. length (take k (now ++ rest)) ≡ n) (h ∙ sym e) (ap length (take-append_seam now rest) ∙ h)
+lent-long n count now rest h e = ap length (lent-is n count now rest h e) ∙ h
 
 pub stored : {K : Type 0} (told : K → DiskTold) (disk : K) (r : ImageRead) (buffer : List ℕ) → IsReadSound r → IfSome (open_bytes (told disk)) (IsNow r) →
     IfSome (open_bytes (told disk)) (IsImageOf r.layout r.found.state (table_within r.within)) → (told disk).open_length ≡ Some (image_size r.layout) → length buffer ≡ 126976 →

@@ -386,7 +386,7 @@ both-blocks : (holds : Bool → Bool) (x : Bool) → holds x ≡ true → holds 
 both-blocks holds true h k = (k, h)
 both-blocks holds false h k = (h, k)
 
-rest-same : (at size first : ℕ) (a b : List ℕ) → 4096 ≤ first → first ≤ size → DifferWithin (at + 4096) (first - 4096) a b → drop first (copy b at size) ≡ drop first (copy a at size)
+pub rest-same : (at size first : ℕ) (a b : List ℕ) → 4096 ≤ first → first ≤ size → DifferWithin (at + 4096) (first - 4096) a b → drop first (copy b at size) ≡ drop first (copy a at size)
 rest-same at size first a b low high d =
     let e : first + (size - first) ≡ size = omega arith in
     let n : at + 4096 + (first - 4096) ≡ at + first = omega arith in

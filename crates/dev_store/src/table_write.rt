@@ -1,15 +1,24 @@
-ghost use Rattle.std.specs.Prelude.{◌≡◌, ◌+◌, ◌*◌, ◌^◌, ◌<◌, length, OnOk, OnErr};
+ghost use Rattle.std.specs.Prelude.{◌≡◌, ◌+◌, ◌*◌, ◌^◌, ◌<◌, ◌≤◌, length, OnOk, OnErr, IsTrue};
 ghost use Rattle.fb_frame.specs.Causes.{Rose};
 ghost use Rattle.fb_frame.specs.Told.{Both};
 ghost use Rattle.dev_disk.specs.Files.{IsInside};
 ghost use Rattle.dev_disk.specs.Disks.{open_bytes, OpenKept, Writes};
 ghost use Rattle.dev_model.specs.Images.{copies};
+ghost use Rattle.super_meta.specs.Contents.{content, is_sound};
+ghost use Rattle.super_meta.specs.TableBytes.{TableBytes};
+ghost use Rattle.super_meta.specs.TableText.{table_size};
 ghost use Rattle.dev_store.specs.SuperBounds.{IsBounded};
-ghost use Rattle.dev_store.specs.TableWrites.{AreLeft, AreCopiesWritten, AreCopiesLeft};
+ghost use Rattle.dev_store.specs.SuperReads.{IsSpelled, HasRooms};
+ghost use Rattle.dev_store.specs.SuperRepairs.{AreTablesMended};
+ghost use Rattle.dev_store.specs.TableWrites.{AreLeft, AreCopiesWritten, AreCopiesLeft, IsTableAround};
 
 use crate::layout::SuperPart;
 use crate::making::write_copies;
+use crate::super_read::SuperRead;
 use dev_disk::disk::{Disk, DiskFault};
+use std::mem;
+use super_meta::table::Table;
+use super_meta::writing::write_table;
 
 /// Writes a block `count` times in a row, from the place `at` on, and waits until they are kept.
 fn write_row<K: Disk>(disk: &mut K, at: u64, block: &[u8], count: u32) -> Result<(), DiskFault>
@@ -56,4 +65,56 @@ pub(crate) fn write_tables<K: Disk>(
         return Err(DiskFault);
     };
     write_row(disk, at + s.copy_place(s.slots), bytes, s.slots)
+}
+
+/// Spells a table over the bytes of a copy, with zeros after it, and answers how many bytes are the
+/// table's.
+fn spell(table: &Table, copy: &mut [u8]) -> usize
+    requires sound { IsTrue (is_sound (content table.now)) }
+    requires fits { table_size (content table.now) ≤ length copy.old }
+    ensures spelled { TableBytes (content table.now) copy.new }
+    ensures size { result ≡ table_size (content table.now) }
+{
+    copy.fill(0);
+    let Ok(size) = write_table(table, copy) else {
+        unreachable!();
+    };
+    size
+}
+
+/// Writes the next table over all copies of the table of super, which begins at the place `at`, and puts
+/// it in the table's place.
+pub(crate) fn put_next<K: Disk>(
+    disk: &mut K,
+    s: &SuperPart,
+    at: u64,
+    within: &mut SuperRead,
+) -> Result<(), DiskFault>
+    requires bounded { IsBounded s.now }
+    requires inside { IsInside (K.told disk.old).open_length at s.now.size }
+    requires end { at + s.now.size < 2 ^ 64 }
+    requires sound { IsTrue (is_sound (content within.old.next)) }
+    requires fits { table_size (content within.old.next) ≤ s.now.max_size }
+    requires long { length within.old.copy.items ≡ s.now.max_size }
+    ensures written { OnOk result (Both (AreTablesMended s.now at (content within.old.next))
+        (open_bytes (K.told disk.old)) (open_bytes (K.told disk.new))) }
+    ensures around { OnErr result (Both (IsTableAround (K.told disk.new).torn s.now at
+        (content within.old.next)) (open_bytes (K.told disk.old)) (open_bytes (K.told disk.new))) }
+    ensures put { OnOk result (content within.new.table ≡ content within.old.next) }
+    ensures spelled { OnOk result (IsSpelled s.now within.new) }
+    ensures rooms { HasRooms s.now within.old → HasRooms s.now within.new }
+    ensures stays { OnErr result (within.new.table ≡ within.old.table) }
+    ensures owners { within.new.owners ≡ within.old.owners }
+    ensures parts { within.new.parts ≡ within.old.parts }
+    ensures kept { OpenKept (K.told disk.old) (K.told disk.new) }
+    ensures cause { OnErr result (Rose (K.told disk.old).faults (K.told disk.new).faults) }
+    ensures same { K.lent disk.new ≡ K.lent disk.old }
+{
+    let size = spell(&within.next, &mut within.copy);
+    let Ok(()) = write_tables(disk, s, at, &within.copy) else {
+        return Err(DiskFault);
+    };
+    within.size = size;
+    mem::swap(&mut within.table, &mut within.next);
+    Ok(())
 }
