@@ -73,7 +73,7 @@ pub fn length_of(facts: &Facts, name: &[u8]) -> Option<u64>
 }
 
 /// The place of the partition of a name.
-fn place_of(parts: &[Partition], name: &[u8]) -> Option<usize>
+pub fn place_of(parts: &[Partition], name: &[u8]) -> Option<usize>
     ensures { result ≡ position (λ p. bytes_eq p.name name.now) parts.now }
 {
     parts.iter().position(|p| p.name.bytes() == name)
