@@ -100,7 +100,8 @@ pub(crate) fn put_next<K: Disk>(
         (open_bytes (K.told disk.old)) (open_bytes (K.told disk.new))) }
     ensures around { OnErr result (Both (IsTableAround (K.told disk.new).torn s.now at
         (content within.old.next)) (open_bytes (K.told disk.old)) (open_bytes (K.told disk.new))) }
-    ensures put { OnOk result (content within.new.table ≡ content within.old.next) }
+    ensures put { OnOk result (within.new.table ≡ within.old.next) }
+    ensures back { OnOk result (within.new.next ≡ within.old.table) }
     ensures spelled { OnOk result (IsSpelled s.now within.new) }
     ensures rooms { HasRooms s.now within.old → HasRooms s.now within.new }
     ensures stays { OnErr result (within.new.table ≡ within.old.table) }
