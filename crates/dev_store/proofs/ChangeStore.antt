@@ -57,12 +57,12 @@ tabled-in : (layout : LayoutValue) (part : Option SuperPart) (s : SuperPart) (c 
     IsTrue (are_good_units layout.physical s c) × ((bytes : List ℕ) × (result_ok (table_of bytes) ≡ Some c))
 tabled-in layout part s c e t = subst (λ q. IsTabled layout q (Some c)) e t
 
-logical-names : (dev : Dev) → IsValid dev → are_distinct (map (λ p. p.name) dev.logical) ≡ true
+pub logical-names : (dev : Dev) → IsValid dev → are_distinct (map (λ p. p.name) dev.logical) ≡ true
 logical-names dev v =
     distinct-right (map (λ p. p.name) dev.physical) (map (λ p. p.name) dev.logical)
     (distinct-left (map (λ p. p.name) dev.physical ++ map (λ p. p.name) dev.logical) (option_to_list dev.super_name) (both (list_all is_name (all_names dev)) (are_distinct (all_names dev)) v.names).1)
 
-groups-known : (minor : ℕ) (groups : List TableGroup) (ps : List Logical) → list_all (is_entry minor groups) ps ≡ true → list_all (λ p. is_group groups p.group) ps ≡ true
+pub groups-known : (minor : ℕ) (groups : List TableGroup) (ps : List Logical) → list_all (is_entry minor groups) ps ≡ true → list_all (λ p. is_group groups p.group) ps ≡ true
 groups-known minor groups [] h = refl
 groups-known minor groups (p ∷ ps) h =
     let b = both (is_entry minor groups p) (list_all (is_entry minor groups) ps) h in
