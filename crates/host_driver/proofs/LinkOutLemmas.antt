@@ -136,22 +136,24 @@ Sending-more a b c left p s long f g d = record {
 }
 
 -- the last frame of the data
-pub Sends-rest : (a b c : PortTold) (left : ℕ) (p : List ℕ) → IsSending a b left → 0 < length p → length p ≤ 65536 → Sends b c (frame p) → Wrote b.peer c.peer p → SendsAll (data_by a.peer b.peer p) a c
+pub Sends-rest : (a b c : PortTold) (left : ℕ) (p : List ℕ) → IsSending a b left → 0 < length p → length p ≤ 65536 → length p ≡ left → Sends b c (frame p) → Wrote b.peer c.peer p → Downloading (left - length p) c.peer → SendsAll (data_by a.peer b.peer p) a c
 unfolding IsSending SendsAll
-Sends-rest a b c left p s some small f g = record {
+Sends-rest a b c left p s some small all f g d = record {
   bytes = s.bytes ++ p;
   whole = data-is s.bytes (full_frames s.frames s.bytes) a.peer b.peer p s.sent.took;
   sent = subst (λ t. IsSent (s.bytes ++ p) t a c) (sym (wire-rest s.frames s.bytes p s.whole some small))
       (sent-more s.bytes (full_frames s.frames s.bytes) p a b c s.sent f g);
+  sending = subst (λ n. Downloading n c.peer) (omega (arith, all)) d;
 }
 
-pub Sends-frames : (a b : PortTold) (left : ℕ) → IsSending a b left → SendsAll (data_by a.peer b.peer []) a b
+pub Sends-frames : (a b : PortTold) (left : ℕ) → IsSending a b left → left ≡ 0 → SendsAll (data_by a.peer b.peer []) a b
 unfolding IsSending SendsAll
-Sends-frames a b left s = record {
+Sends-frames a b left s none = record {
   bytes = s.bytes ++ [];
   whole = data-is s.bytes (full_frames s.frames s.bytes) a.peer b.peer [] s.sent.took;
   sent = subst (λ t. IsSent (s.bytes ++ []) t a b) (sym (wire-frames s.frames (s.bytes ++ []) (omega (arith, s.whole, length-append s.bytes [])) ∙ frames-append s.frames s.bytes [] s.whole))
       (subst (λ t. IsSent t (full_frames s.frames s.bytes) a b) (sym (append-nil s.bytes)) s.sent);
+  sending = subst (λ n. Downloading n b.peer) none s.sending;
 }
 
 -- a call failed amid the data

@@ -45,6 +45,7 @@ Part-sent told part a b c left put s e p all = record {
   bytes = all.bytes;
   part_is = part-is told part s.bytes _ all.bytes a.peer b.peer put s.sent.took e p all.whole;
   sent = all.sent;
+  sending = all.sending;
 }
 
 -- a download of which no data was sent yet

@@ -94,6 +94,7 @@ pub record SendsData (put : Option (List ℕ)) (old new : PortTold) : Type 0 whe
   pub bytes : List ℕ
   pub whole : IfSome put (λ all. bytes ≡ all)
   pub sent : IsSent bytes (data_wire bytes) old new
+  pub sending : Downloading 0 new.peer
 
 unfoldable pub SendsAll : Option (List ℕ) → PortTold → PortTold → Type 0
 SendsAll put old new = SendsData put old new

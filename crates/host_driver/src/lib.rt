@@ -7,6 +7,7 @@ ghost use Rattle.host_driver.specs.Completing.{Completes, RefusesExactly};
 pub mod before;
 pub mod drive;
 pub mod link_out;
+pub mod load_piece;
 pub mod log_port;
 pub mod send_piece;
 mod step;
