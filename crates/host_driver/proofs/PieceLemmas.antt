@@ -10,6 +10,7 @@ use Rattle.wire_told.specs.Answered.{got_of}
 use Rattle.wire_told.specs.Ports.{PortTold}
 use Rattle.host_driver.specs.LinkOuts.{IsTaken, IsSent, IsSending, data_by, room_by, SendsAll}
 use Rattle.host_driver.proofs.LinkOutLemmas.{GivenUp-failed, Sending-begun}
+use Rattle.host_driver.proofs.FrontLemmas.{refused-front}
 use Rattle.host_driver.specs.PutPieces.{ArePart, SendsPart, IsPartSent}
 
 -- All that was announced was put.
