@@ -1,42 +1,56 @@
 -- A download of a piece, from its command to its end.
-use Rattle.std.proofs.Common.{◌≡◌, ◌⊎◌, inl, inr, ℕ, ◌+◌, ◌-◌, ◌<◌, ◌≤◌, Bool, true, false, List, [], ◌∷◌, ◌++◌, length, length-append, Option, Some, None, refl, sym, ap, ◌∙◌, subst, arith}
-use Rattle.std.specs.Prelude.{codes, nat_lt, ◌==◌, if◌then◌else◌, unwrap_or, IsTrue}
+use Rattle.std.proofs.Common.{◌≡◌, ◌⊎◌, inl, inr, ℕ, ◌≢◌, ◌+◌, ◌-◌, ◌^◌, ◌<◌, ◌≤◌, Bool, true, false, List, [], ◌∷◌, ◌++◌, length, length-append, Option, Some, None, refl, sym, ap, ◌∙◌, subst, arith}
+use Rattle.std.specs.Prelude.{codes, ◌&&◌, nat_lt, ◌==◌, if◌then◌else◌, unwrap_or, IsTrue}
 use Rattle.std.specs.List.{list_all}
 use Rattle.std.proofs.lemmas.Bool.Decides.{nat_tests}
+use Rattle.std.proofs.lemmas.Grind.{flat_map-append}
+use Rattle.std.proofs.lemmas.List.{append-nil, append_assoc}
+use Rattle.fb_frame.specs.Greeting.{handshake}
 use Rattle.fb_frame.specs.Causes.{Rose}
-use Rattle.fb_frame.specs.Framing.{frame}
+use Rattle.fb_frame.specs.Framing.{frame, head}
 use Rattle.fb_message.specs.CommandText.{CommandValue, Download, spelling}
 use Rattle.fb_message.specs.declared.reply.Reply.{Reply}
 use Rattle.fb_message.specs.declared.reply.Reply.TheVariants.{Okay, Fail, Info, Text, Load}
 use Rattle.dev_model.specs.declared.device.Dev.{Dev}
-use Rattle.fb_message.specs.ReplyText.{reply_fits}
+use Rattle.fb_frame.specs.Numbers.{hex8}
+use Rattle.fb_frame.specs.Sinks.{Grew, GrewPart}
+use Rattle.fb_message.specs.Prefixes.{only_if}
+use Rattle.fb_message.specs.ReplyText.{reply_bytes, reply_fits}
 use Rattle.dev_model.specs.Options.{first_passed}
 use Rattle.dev_model.proofs.Valid.{both}
 use Rattle.dev_model.specs.Refusals.{download_refusal}
 use Rattle.wire_model.specs.Says.{Loaded, says, awaits}
 use Rattle.wire_model.specs.Wire.{Wire}
-use Rattle.wire_told.specs.Answered.{IsSending as IsSendingWire, Downloading, Unbegun, Loads, got_of, is_line, ends_well, reply_frames, IsVerdict}
+use Rattle.wire_told.specs.Answered.{IsSending as IsSendingWire, Downloading, Unbegun, Loads, got_of, is_line, ends_well, reply_frames, IsVerdict, Sound, IsFree, Free}
 use Rattle.wire_told.specs.Exchanges.{said_to, IsExchanged, Exchanged, EndsIn, IsInterrupted}
 use Rattle.wire_told.specs.Peers.{Peer, Apart, Joined, OfLink, OnLink, OffLink}
 use Rattle.wire_told.specs.Places.{Appended}
-use Rattle.wire_told.specs.Ports.{PortTold, Kept}
+use Rattle.wire_told.specs.Ports.{PortTold, Kept, Drops}
 use Rattle.wire_told.specs.Told.{Heard, HungUp}
 use Rattle.wire_told.specs.Turns.{CommandTest}
 use Rattle.wire_told.proofs.KeptLemmas.{Appended-append}
-use Rattle.wire_told.proofs.Lifted.{of-of, of-on, on-on, on-then, kept-hung}
+use Rattle.wire_told.proofs.Lifted.{of-of, of-both, of-on, on-on, on-then, kept-hung}
 use Rattle.wire_told.proofs.ExchangeLemmas.{said-open}
 use Rattle.wire_told.proofs.PortLemmas.{Kept-trans}
-use Rattle.wire_told.proofs.StateLemmas.{finished}
-use Rattle.fb_link.specs.Concluded.{Concluded, CommandPasses, Finished, IsCutOff, IsGivenUp, IsUndue, IsNoVerdict}
-use Rattle.fb_link.specs.Seen.{Seen}
+use Rattle.wire_told.proofs.StateLemmas.{finished, suits-load, announces-download}
+use Rattle.fb_link.specs.Concluded.{Concluded, ConcludedAfter, CommandPasses, Finished, IsCutOff, IsGivenUp, IsUndue, IsNoVerdict, LogsWhole}
+use Rattle.fb_link.specs.Seen.{Seen, seen}
 use Rattle.fb_link.specs.declared.link_error.LinkError.{LinkError}
-use Rattle.fb_link.specs.declared.link_error.LinkError.TheVariants.{Link}
+use Rattle.fb_link.specs.declared.link_error.LinkError.TheVariants as link
+use Rattle.fb_link.specs.Broken.{BrokeOff, ShownInPart, SaysFirst, GivesNone}
+use Rattle.fb_link.specs.Lines.{shown_lines}
 use Rattle.fb_link.specs.Errors.{Why}
 use Rattle.fb_link.proofs.BrokenLemmas.{Why-behind, Why-weaker}
+use Rattle.fb_link.proofs.EndLemmas.{frames-snoc}
 use Rattle.fb_link.proofs.TypedLemmas.{Exchanged-concluded}
 use Rattle.sparse_image.specs.Cuts.{Part, part_len}
 use Rattle.host_driver.specs.LinkOuts.{IsTaken, HasGivenUp}
-use Rattle.host_driver.specs.PutPieces.{ArePart, SendsPart, IsPartSent, TakesAll, WhyLost, IsLoadedBy, LoadsPart, IsPartLoaded}
+use Rattle.host_driver.specs.declared.drive.DriveError.{DriveError}
+use Rattle.host_driver.specs.declared.drive.DriveError.TheVariants as stop
+use Rattle.host_driver.specs.HeardLast.{HeardThen, HeardAt}
+use Rattle.host_driver.specs.PutPieces.{ArePart, SendsPart, IsPartSent, HasBegun, HasEnded, HeardLoad, Unrefused, IsUnloaded, IsLoadedBy, LoadsPart, IsPartLoaded}
+use Rattle.host_driver.specs.Stepping.{TakesAll, NoFiles, stop_of, WhyStopped}
+use Rattle.host_driver.proofs.TakeLemmas.{heard-more, heard-again, heard-broken, why-broken, grows-part}
 use Rattle.host_driver.specs.Wires.{command_wire, data_wire, download_wire}
 
 -- Two facts of one call.
@@ -297,19 +311,219 @@ End-given told part n m a b c d k s g = record {
   sound = g.sound;
 }
 
--- Why it was.
-pub Lost-begun : (n : ℕ) (e : LinkError) (a b : PortTold) → Why (IsUndue (Download n)) e a b → WhyLost e a b
-Lost-begun n e a b w = Why-weaker (IsUndue (Download n)) (λ p. Unit {0}) (λ p q. tt) e a b w
+-- What was said before a download was cut.
+lines-load : (infos more : List Reply) (n : ℕ) → list_all is_line infos ≡ true → Load n ∷ [] ≡ infos ++ more → infos ≡ []
+lines-load [] more n l e = refl
+lines-load (x ∷ infos) more n l e = absurd (line-load x n (both (is_line x) (list_all is_line infos) l).0 cc)
+  where
+    line-load : (x : Reply) (n : ℕ) → is_line x ≡ true → x ≡ Load n → ⊥
+    line-load x n l e = let h : is_line (Load n) ≡ true = subst (λ y. is_line y ≡ true) e l in cc
 
-pub Lost-amid : (a b c : PortTold) → Kept a b → Rose b.faults c.faults → WhyLost Link a c
-Lost-amid a b c k r = omega (arith, k.later, r)
+says-none : (n : ℕ) (infos : List Reply) (a : Option Peer) → list_all is_line infos ≡ true → OfLink (λ w. n ≤ w.device.max) a → SaysFirst (Download n) a infos → OfLink (λ w. infos ≡ []) a
+says-none n infos a l f d =
+    of-both (λ w. n ≤ w.device.max) (λ w. (more : List Reply) × ((said_to (Download n) w).replies ≡ infos ++ more)) (λ w. infos ≡ [])
+    (λ w p q. lines-load infos q.0 n l (sym (fits-replies n w p) ∙ q.1)) a f d
 
-pub Lost-ended : (told : Option (List ℕ)) (part : Part) (n m : ℕ) (e : LinkError) (a b : Seen) (c d : PortTold) → Concluded (Download n) a b (Load m) → Kept a.port b.port → IsPartSent told part b.port c → Why IsNoVerdict e c d → WhyLost e a.port d
-Lost-ended told part n m e a b c d k g s w =
-    Why-behind (λ p. Unit {0}) e a.port c d (Kept-sent told part a.port b.port c g s) (λ z. begun-none n m a b k (sent-none told part b.port c s z))
-    (Why-weaker IsNoVerdict (λ p. Unit {0}) (λ p q. tt) e c d w)
+quiet-none : (infos : List Reply) (a : Option Peer) (t u : Option (List ℕ)) → OfLink (λ w. infos ≡ []) a → Grew t u (shown_lines infos) → OfLink (λ w. Grew t u []) a
+quiet-none infos a t u n g = of-of (λ w. infos ≡ []) (λ w. Grew t u []) (λ w e. subst (λ i. Grew t u (shown_lines i)) e g) a n
 
-pub Passes-all : (test : CommandTest) (a : Option Peer) (c : CommandValue) → TakesAll test → OfLink (λ w. Unit {0}) a → CommandPasses test a c
-Passes-all test a c t f = λ p e. of-of (λ w. Unit {0}) (λ w. IsTrue (test w.loaded p)) (λ w u. t w.loaded p) a f
+part-none : (t u : Option (List ℕ)) → GrewPart t u [] → Grew t u []
+part-none None None g = tt
+part-none None (Some u) g = absurd g
+part-none (Some t) None g = absurd g
+part-none (Some t) (Some u) g = absurd (omega (arith, g.fewer))
 
-pub ruleset loads = (Part-loaded, Refused-untold, Okay-never, End-untold, Cut-given, Data-given, Kept-given, Kept-sent, Kept-trans, End-given, Lost-begun, Lost-amid, Lost-ended, Passes-all)
+quiet-part : (infos : List Reply) (a : Option Peer) (t u : Option (List ℕ)) → OfLink (λ w. infos ≡ []) a → GrewPart t u (shown_lines infos) → OfLink (λ w. Grew t u []) a
+quiet-part infos a t u n g = of-of (λ w. infos ≡ []) (λ w. Grew t u []) (λ w e. part-none t u (subst (λ i. GrewPart t u (shown_lines i)) e g)) a n
+
+of-untold : (P : Wire → Type 0) (a : Option Peer) → a ≡ None → OfLink P a
+of-untold P None e = tt
+of-untold P (Some a) e = absurd cc
+
+kept-told : (n : ℕ) (end : Reply) (a b : Seen) (c : Option Peer) → Concluded (Download n) a b end → HungUp b.port.peer c → HungUp a.port.peer c
+kept-told n end a b c k h =
+    let broke = Rose a.port.faults b.port.faults in
+    kept-hung (IsExchanged broke (Download n) end) (same broke) a.port.peer b.port.peer c (Exchanged-concluded (Download n) a b end k) h
+  where
+    same : (broke : Type 0) (w u : Wire) → IsExchanged broke (Download n) end w u → u.device ≡ w.device
+    same broke w u (inl x) = x.device ∙ download-device n w
+    same broke w u (inr x) = absurd x.1.halts.change
+
+unrefused-link : (e : LinkError) (a : Option Peer) → Unrefused (stop_of e) a
+unrefused-link link.Link a = tt
+unrefused-link link.Ended a = tt
+unrefused-link (link.BadHandshake four) a = tt
+unrefused-link (link.BadLength n) a = tt
+unrefused-link (link.BadReply reply) a = tt
+unrefused-link link.TooManyInfos a = tt
+
+-- The command was refused, or its connection is lost.
+pub Unbegun-fail : (n : ℕ) (a b : Seen) (d : PortTold) (text : List ℕ) → OfLink (λ w. n ≤ w.device.max) a.port.peer → Concluded (Download n) a b (Fail text) → Kept a.port b.port → Drops b.port d → Sound d.peer →
+    IsUnloaded NoFiles (HeardThen a.port.heard []) a (seen d b.text) (stop.Refused text)
+Unbegun-fail n a b d text f k kept drops sound =
+    let untold = Refused-untold n a b text f k in
+    record {
+      why = tt;
+      given_up = record { down = drops.down; left = kept-told n (Fail text) a b d.peer k drops.left; sound = sound };
+      unrefused = untold;
+      quiet = of-untold (λ w. Grew a.text b.text []) a.port.peer untold;
+      grows = record { more = shown_lines k.infos; grew = k.shown };
+      heard = λ h. subst (λ o. HeardThen o (frame (reply_bytes (Fail text)))) (sym drops.heard)
+          (heard-more a.port.heard b.port.heard k.infos (frame (reply_bytes (Fail text))) h (subst (Appended a.port.heard b.port.heard) (sym (frames-snoc k.infos (Fail text))) k.bytes));
+      kept = Kept-trans a.port b.port d kept drops.kept;
+    }
+
+pub Unbegun-broken : (n : ℕ) (a b : Seen) (e : LinkError) (error : DriveError) → n < 2 ^ 32 → error ≡ stop_of e → OfLink (λ w. n ≤ w.device.max) a.port.peer → BrokeOff (SaysFirst (Download n) a.port.peer) 0 a b e → Why (IsUndue (Download n)) e a.port b.port → (e ≢ link.Link → LogsWhole (Download n) a.port b.port) → IsCutOff (Download n) a.port b.port → Exchanged (Download n) a.port b.port None → Kept a.port b.port →
+    IsUnloaded NoFiles (HeardThen a.port.heard []) a b error
+Unbegun-broken n a b e error small same f k w l cut x kept =
+    let fits : nat_lt n (2 ^ 32) ≡ true = grind (arith, nat_tests, small) in
+    let spelled : spelling (Download n) ≡ Some (codes "download:" ++ hex8 n) = ap (λ t. only_if t (codes "download:" ++ hex8 n)) fits in
+    subst (IsUnloaded NoFiles (HeardThen a.port.heard []) a b) (sym same) (record {
+      why = why-broken (Download n) e a.port b.port w;
+      given_up = Cut-given n a.port b.port cut x;
+      unrefused = unrefused-link e a.port.peer;
+      quiet = quiet-none k.infos a.port.peer a.text b.text (says-none n k.infos a.port.peer k.lines f k.due) k.shown;
+      grows = record { more = shown_lines k.infos; grew = k.shown };
+      heard = heard-broken (Download n) (codes "download:" ++ hex8 n) e a b k w l spelled;
+      kept = kept;
+    })
+
+pub Unbegun-unshown : (n : ℕ) (a b : Seen) → OfLink (λ w. n ≤ w.device.max) a.port.peer → ShownInPart (SaysFirst (Download n) a.port.peer) 0 a b → IsCutOff (Download n) a.port b.port → Exchanged (Download n) a.port b.port None → Kept a.port b.port →
+    IsUnloaded NoFiles (HeardThen a.port.heard []) a b stop.Output
+Unbegun-unshown n a b f k cut x kept = record {
+  why = tt;
+  given_up = Cut-given n a.port b.port cut x;
+  unrefused = tt;
+  quiet = quiet-part k.infos a.port.peer a.text b.text (says-none n k.infos a.port.peer k.lines f k.due) k.shown;
+  grows = grows-part a.text b.text (shown_lines k.infos) k.shown;
+  heard = λ h. tt;
+  kept = kept;
+}
+
+pub Passes-all : (test : CommandTest) (a : Option Peer) (c : CommandValue) → TakesAll test → Free a → CommandPasses test a c
+Passes-all test a c t f = λ p e. of-of IsFree (λ w. IsTrue (test w.loaded p)) (λ w u. t w.loaded p) a f
+
+pub counted : (n m : ℕ) (a b : Seen) → Concluded (Download n) a b (Load m) → m ≡ n
+counted n m a b k = same-count (announces-download (Download n) m (suits-load (Download n) m k.suitable))
+  where
+    same-count : Download n ≡ Download m → m ≡ n
+    same-count e = cc
+
+
+pub Begun-load : (n m lines : ℕ) (a b : Seen) → ConcludedAfter (Download n) a b (Load m) lines → Unbegun b.port.peer → Kept a.port b.port → HasBegun n a b lines
+Begun-load n m lines a b k g kept = record { count = m; concluded = k.0; counted = k.1; unbegun = g; kept = kept }
+
+-- The end of a download.
+pub Ended-okay : (lines : ℕ) (a b : Seen) (line : List ℕ) → Finished lines a b (Okay line) → b.port.log ≡ a.port.log → Kept a.port b.port → HasEnded lines a b
+Ended-okay lines a b line f l k = record { line = line; finished = f; log = l; kept = k }
+
+-- what is heard after DATA and more
+heard-load : (lines : ℕ) (a b : Option (List ℕ)) (rs : List Reply) (x : List ℕ) → HeardLoad lines a → Appended a b (reply_frames rs ++ x) → HeardThen b x
+heard-load lines a b rs x h f = heard-more a b rs x (heard-same a (h.0 ++ Load h.1 ∷ []) h.4) f
+  where
+    heard-same : (a : Option (List ℕ)) (fs : List Reply) → HeardThen a (reply_frames fs) → HeardThen a []
+    heard-same None fs h = tt
+    heard-same (Some a) fs h = (h.0 ++ fs, h.1 ∙ (append_assoc (handshake 1) (reply_frames h.0) (reply_frames fs) ∙ (ap (λ t. handshake 1 ++ t) (sym (flat_map-append (λ r. frame (reply_bytes r)) h.0 fs)) ∙ sym (append-nil (handshake 1 ++ reply_frames (h.0 ++ fs))))))
+
+pub Ended-fail : (lines : ℕ) (a b : Seen) (d : PortTold) (text : List ℕ) → Downloading 0 a.port.peer → Finished lines a b (Fail text) → Kept a.port b.port → Drops b.port d → Sound d.peer →
+    IsUnloaded NoFiles (HeardLoad lines a.port.heard) a (seen d b.text) (stop.Refused text)
+Ended-fail lines a b d text s f kept drops sound =
+    let untold = Ended-untold lines a b text s f in
+    record {
+      why = tt;
+      given_up = record { down = drops.down; left = kept-hung (λ w v. w ≡ record v { out = reply_frames (f.infos ++ Fail text ∷ []) ++ v.out }) (λ w v e. sym (ap (λ (x : Wire). x.device) e)) a.port.peer b.port.peer d.peer f.told drops.left; sound = sound };
+      unrefused = untold;
+      quiet = of-untold (λ w. Grew a.text b.text []) a.port.peer untold;
+      grows = record { more = shown_lines f.infos; grew = f.shown };
+      heard = λ h. subst (λ o. HeardThen o (frame (reply_bytes (Fail text)))) (sym drops.heard)
+          (heard-load lines a.port.heard b.port.heard f.infos (frame (reply_bytes (Fail text))) h (subst (Appended a.port.heard b.port.heard) (sym (frames-snoc f.infos (Fail text))) f.bytes));
+      kept = Kept-trans a.port b.port d kept drops.kept;
+    }
+
+why-ended : (e : LinkError) (a b : PortTold) → Why IsNoVerdict e a b → WhyStopped NoFiles a b (stop_of e)
+why-ended link.Link a b w = w
+why-ended link.Ended a b w = w
+why-ended (link.BadHandshake four) a b w = absurd w
+why-ended (link.BadLength n) a b w = w.0
+why-ended (link.BadReply reply) a b w = w.0
+why-ended link.TooManyInfos a b w = w
+
+-- replies that were heard after others
+heard-both : (a b : Option (List ℕ)) (fs rs : List Reply) (x : List ℕ) → HeardThen a (reply_frames fs) → Appended a b (reply_frames rs ++ x) → HeardThen b (reply_frames (fs ++ rs) ++ x)
+heard-both None None fs rs x h f = tt
+heard-both None (Some b) fs rs x h f = absurd f
+heard-both (Some a) None fs rs x h f = absurd f
+heard-both (Some a) (Some b) fs rs x h f =
+    let front = handshake 1 ++ reply_frames h.0 in
+    (h.0, f ∙ (ap (λ t. t ++ (reply_frames rs ++ x)) h.1 ∙ (append_assoc front (reply_frames fs) (reply_frames rs ++ x)
+    ∙ ap (λ t. front ++ t) (sym (append_assoc (reply_frames fs) (reply_frames rs) x) ∙ ap (λ t. t ++ x) (sym (flat_map-append (λ r. frame (reply_bytes r)) fs rs))))))
+
+heard-later : (b : Option (List ℕ)) (gs hs : List Reply) (x : List ℕ) → HeardThen b (reply_frames (gs ++ hs) ++ x) → HeardThen b (reply_frames hs ++ x)
+heard-later None gs hs x h = tt
+heard-later (Some b) gs hs x h =
+    (h.0 ++ gs, h.1 ∙ (ap (λ t. (handshake 1 ++ reply_frames h.0) ++ (t ++ x)) (flat_map-append (λ r. frame (reply_bytes r)) gs hs)
+    ∙ (ap (λ t. (handshake 1 ++ reply_frames h.0) ++ t) (append_assoc (reply_frames gs) (reply_frames hs) x)
+    ∙ (sym (append_assoc (handshake 1 ++ reply_frames h.0) (reply_frames gs) (reply_frames hs ++ x))
+    ∙ ap (λ t. t ++ (reply_frames hs ++ x)) (append_assoc (handshake 1) (reply_frames h.0) (reply_frames gs) ∙ ap (λ t. handshake 1 ++ t) (sym (flat_map-append (λ r. frame (reply_bytes r)) h.0 gs)))))))
+
+all-both : (xs ys : List Reply) → list_all is_line xs ≡ true → list_all is_line ys ≡ true → list_all is_line (xs ++ ys) ≡ true
+all-both [] ys e f = f
+all-both (x ∷ xs) ys e f =
+    let h = both (is_line x) (list_all is_line xs) e in
+    ap (λ b. b && list_all is_line (xs ++ ys)) h.0 ∙ all-both xs ys h.1 f
+
+heard-ended : (lines : ℕ) (e : LinkError) (a b : Seen) → BrokeOff (GivesNone a.port.peer) lines a b e → Why IsNoVerdict e a.port b.port → HeardLoad lines a.port.heard → HeardAt b.port (stop_of e)
+heard-ended lines link.Link a b k w h = tt
+heard-ended lines link.Ended a b k w h = tt
+heard-ended lines (link.BadHandshake four) a b k w h = absurd w
+heard-ended lines (link.BadLength n) a b k w h = inr (inl (record {
+  n = n;
+  wrong = w.1;
+  bytes = refl;
+  heard = heard-load lines a.port.heard b.port.heard k.infos (head n) h (subst (λ r. Appended a.port.heard b.port.heard (reply_frames k.infos ++ r)) k.stands.1 k.bytes);
+}))
+heard-ended lines (link.BadReply reply) a b k w h =
+    let all = heard-both a.port.heard b.port.heard (h.0 ++ Load h.1 ∷ []) k.infos (frame reply) h.4 (subst (λ r. Appended a.port.heard b.port.heard (reply_frames k.infos ++ r)) k.stands.3 k.bytes) in
+    inr (inr (inr (inl (record {
+      undue = w.1;
+      count = h.1;
+      infos = k.infos;
+      lines = k.lines;
+      heard = heard-later b.port.heard h.0 (Load h.1 ∷ k.infos) (frame reply) (subst (λ t. HeardThen b.port.heard (reply_frames t ++ frame reply)) (append_assoc h.0 (Load h.1 ∷ []) k.infos) all);
+    }))))
+heard-ended lines link.TooManyInfos a b k w h =
+    let all = heard-both a.port.heard b.port.heard (h.0 ++ Load h.1 ∷ []) k.infos [] h.4 (subst (λ r. Appended a.port.heard b.port.heard (reply_frames k.infos ++ r)) k.stands.1 k.bytes) in
+    record {
+      first = h.0;
+      later = k.infos;
+      lines = all-both h.0 k.infos h.2 k.lines;
+      many = (let n = k.stands.0 in let m = h.3 in omega (arith, n, m, length-append h.0 k.infos));
+      heard = inr (h.1, subst (λ t. HeardThen b.port.heard t) (append-nil (reply_frames (h.0 ++ Load h.1 ∷ k.infos)))
+          (subst (λ t. HeardThen b.port.heard (reply_frames t ++ [])) (append_assoc h.0 (Load h.1 ∷ []) k.infos) all));
+    }
+
+pub Ended-broken : (lines : ℕ) (a b : Seen) (e : LinkError) (error : DriveError) → error ≡ stop_of e → BrokeOff (GivesNone a.port.peer) lines a b e → Why IsNoVerdict e a.port b.port → IsGivenUp a.port b.port → Kept a.port b.port →
+    IsUnloaded NoFiles (HeardLoad lines a.port.heard) a b error
+Ended-broken lines a b e error same k w given kept = subst (IsUnloaded NoFiles (HeardLoad lines a.port.heard) a b) (sym same) (record {
+  why = why-ended e a.port b.port w;
+  given_up = given;
+  unrefused = unrefused-link e a.port.peer;
+  quiet = quiet-none k.infos a.port.peer a.text b.text k.due k.shown;
+  grows = record { more = shown_lines k.infos; grew = k.shown };
+  heard = heard-ended lines e a b k w;
+  kept = kept;
+})
+
+pub Ended-unshown : (lines : ℕ) (a b : Seen) → ShownInPart (GivesNone a.port.peer) lines a b → IsGivenUp a.port b.port → Kept a.port b.port →
+    IsUnloaded NoFiles (HeardLoad lines a.port.heard) a b stop.Output
+Ended-unshown lines a b k given kept = record {
+  why = tt;
+  given_up = given;
+  unrefused = tt;
+  quiet = quiet-part k.infos a.port.peer a.text b.text k.due k.shown;
+  grows = grows-part a.text b.text (shown_lines k.infos) k.shown;
+  heard = λ h. tt;
+  kept = kept;
+}
+
+pub ruleset announces = (Passes-all, counted, Okay-never)

@@ -1,16 +1,24 @@
 -- A piece of an image: what its download and its flash come to.
-use Rattle.std.specs.Prelude.{◌≡◌, ℕ, ◌+◌, ◌*◌, false, List, length, Option, Some, IfSome, IsTrue}
-use Rattle.fb_link.specs.Errors.{Why}
-use Rattle.fb_link.specs.declared.link_error.LinkError.{LinkError}
+use Rattle.std.specs.Prelude.{◌≡◌, ℕ, ◌+◌, ◌*◌, true, false, List, [], ◌∷◌, ◌++◌, length, Option, Some, None, IfSome}
+use Rattle.std.specs.List.{list_all}
+use Rattle.fb_frame.specs.Sinks.{Grew}
+use Rattle.fb_message.specs.CommandText.{Download}
+use Rattle.fb_message.specs.declared.reply.Reply.{Reply}
+use Rattle.fb_message.specs.declared.reply.Reply.TheVariants.{Okay, Load}
+use Rattle.fb_link.specs.Concluded.{Concluded, Finished, IsGivenUp}
+use Rattle.fb_link.specs.Seen.{Seen}
 use Rattle.sparse_image.specs.Cuts.{Part, part_len, part_bytes}
-use Rattle.wire_model.specs.Says.{Loaded}
 use Rattle.wire_model.specs.Wire.{Wire}
-use Rattle.wire_told.specs.Answered.{Downloading}
-use Rattle.wire_told.specs.Peers.{OfLink, OnLink}
+use Rattle.wire_told.specs.Answered.{Downloading, Unbegun, is_line, reply_frames}
+use Rattle.wire_told.specs.Peers.{Peer, OfLink, OnLink}
 use Rattle.wire_told.specs.Places.{Appended}
-use Rattle.wire_told.specs.Ports.{PortTold}
-use Rattle.wire_told.specs.Turns.{CommandTest}
+use Rattle.wire_told.specs.Ports.{PortTold, Kept}
+use Rattle.host_driver.specs.declared.drive.DriveError.{DriveError}
+use Rattle.host_driver.specs.declared.drive.DriveError.TheVariants as stop
+use Rattle.host_driver.specs.Driving.{Grows}
+use Rattle.host_driver.specs.HeardLast.{HeardThen, HeardAt}
 use Rattle.host_driver.specs.LinkOuts.{IsSent}
+use Rattle.host_driver.specs.Stepping.{WhyStopped}
 use Rattle.host_driver.specs.Wires.{data_wire, download_wire}
 
 -- These bytes are those of the part, where the file is told, and as many in any case.
@@ -28,13 +36,42 @@ pub record SendsPart (told : Option (List ℕ)) (part : Part) (old new : PortTol
 unfoldable pub IsPartSent : Option (List ℕ) → Part → PortTold → PortTold → Type 0
 IsPartSent told part old new = SendsPart told part old new
 
--- the port takes every command
-abbrev pub TakesAll : CommandTest → Type 0
-TakesAll test = (loaded : Loaded) (payload : List ℕ) → IsTrue (test loaded payload)
+-- The download of so many bytes was announced, after so many lines, and none of its data came yet.
+pub record HasBegun (size : ℕ) (old new : Seen) (lines : ℕ) : Type 0 where
+  pub count : ℕ
+  pub concluded : Concluded (Download size) old new (Load count)
+  pub counted : lines ≡ length concluded.infos
+  pub unbegun : Unbegun new.port.peer
+  pub kept : Kept old.port new.port
 
--- why a connection is lost, whatever reply was bad
-abbrev pub WhyLost : LinkError → PortTold → PortTold → Type 0
-WhyLost error old new = Why (λ reply. Unit {0}) error old new
+-- A download of which all data was sent was acknowledged, after so many lines before its data.
+pub record HasEnded (lines : ℕ) (old new : Seen) : Type 0 where
+  pub line : List ℕ
+  pub finished : Finished lines old new (Okay line)
+  pub log : new.port.log ≡ old.port.log
+  pub kept : Kept old.port new.port
+
+-- what was heard ends with DATA, after so many lines
+abbrev pub HeardLoad : ℕ → Option (List ℕ) → Type 0
+HeardLoad lines told = (infos : List Reply) × (count : ℕ) × (list_all is_line infos ≡ true)
+    × (length infos ≡ lines) × HeardThen told (reply_frames (infos ++ Load count ∷ []))
+
+-- a told device refused nothing
+abbrev pub Unrefused : DriveError → Option Peer → Type 0
+Unrefused (stop.Refused text) a = a ≡ None
+Unrefused _ a = Unit {0}
+
+-- An attempt broke off in a download: a told device is as it was, and nothing was shown. `Before` says what was
+-- heard before.
+pub record IsUnloaded (Files : List ℕ → Type 0) (Before : Type 0) (old new : Seen) (error : DriveError) :
+    Type 0 where
+  pub why : WhyStopped Files old.port new.port error
+  pub given_up : IsGivenUp old.port new.port
+  pub unrefused : Unrefused error old.port.peer
+  pub quiet : OfLink (λ w. Grew old.text new.text []) old.port.peer
+  pub grows : Grows old.text new.text
+  pub heard : Before → HeardAt new.port error
+  pub kept : Kept old.port new.port
 
 -- These bytes were downloaded and are loaded; the device is as it was.
 pub record IsLoadedBy (bytes : List ℕ) (w v : Wire) : Type 0 where
