@@ -253,7 +253,6 @@ GivenUp-dropped false a b c left s f d = GivenUp-again a b c (f refl) d
 
 pub ruleset ends = (Sends-rest, Sends-frames, Failed-amid, Sending-up, Sending-due, GivenUp-failed, Down-failed)
 
-
 -- more bytes are held
 pub put-more : (a b : Option Peer) (buffer x : List ℕ) → Grew (data_by a b buffer) (data_by a b (buffer ++ x)) x
 put-more None b buffer x = tt

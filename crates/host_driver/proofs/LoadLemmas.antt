@@ -6,6 +6,9 @@ use Rattle.std.proofs.lemmas.Bool.Decides.{nat_tests}
 use Rattle.std.proofs.lemmas.Grind.{flat_map-append}
 use Rattle.std.proofs.lemmas.List.{append-nil, append_assoc}
 use Rattle.fb_frame.specs.Greeting.{handshake}
+use Rattle.fb_frame.proofs.SinkLemmas.{Grew-append}
+use Rattle.fb_message.proofs.Commands.{command_again}
+use Rattle.host_driver.specs.Driving.{Grows}
 use Rattle.fb_frame.specs.Causes.{Rose}
 use Rattle.fb_frame.specs.Framing.{frame, head}
 use Rattle.fb_message.specs.CommandText.{CommandValue, Download, spelling}
@@ -21,7 +24,7 @@ use Rattle.dev_model.proofs.Valid.{both}
 use Rattle.dev_model.specs.Refusals.{download_refusal}
 use Rattle.wire_model.specs.Says.{Loaded, says, awaits}
 use Rattle.wire_model.specs.Wire.{Wire}
-use Rattle.wire_told.specs.Answered.{IsSending as IsSendingWire, Downloading, Unbegun, Loads, got_of, is_line, ends_well, reply_frames, IsVerdict, Sound, IsFree, Free}
+use Rattle.wire_told.specs.Answered.{IsSending as IsSendingWire, Downloading, Unbegun, Loads, got_of, is_line, ends_well, reply_frames, IsVerdict, Sound, IsFree, Free, IsAnswered}
 use Rattle.wire_told.specs.Exchanges.{said_to, IsExchanged, Exchanged, EndsIn, IsInterrupted}
 use Rattle.wire_told.specs.Peers.{Peer, Apart, Joined, OfLink, OnLink, OffLink}
 use Rattle.wire_told.specs.Places.{Appended}
@@ -48,10 +51,10 @@ use Rattle.host_driver.specs.LinkOuts.{IsTaken, HasGivenUp}
 use Rattle.host_driver.specs.declared.drive.DriveError.{DriveError}
 use Rattle.host_driver.specs.declared.drive.DriveError.TheVariants as stop
 use Rattle.host_driver.specs.HeardLast.{HeardThen, HeardAt}
-use Rattle.host_driver.specs.PutPieces.{ArePart, SendsPart, IsPartSent, HasBegun, HasEnded, HeardLoad, Unrefused, IsUnloaded, IsLoadedBy, LoadsPart, IsPartLoaded}
+use Rattle.host_driver.specs.PutPieces.{ArePart, SendsPart, IsPartSent, HasBegun, HasEnded, HeardLoad, Unrefused, IsUnloaded, IsUnread, GoesOn, IsLoadedBy, LoadsPart, IsPartLoaded}
 use Rattle.host_driver.specs.Stepping.{TakesAll, NoFiles, stop_of, WhyStopped}
 use Rattle.host_driver.proofs.TakeLemmas.{heard-more, heard-again, heard-broken, why-broken, grows-part}
-use Rattle.host_driver.specs.Wires.{command_wire, data_wire, download_wire}
+use Rattle.host_driver.specs.Wires.{command_wire, data_wire, download_wire, LogGrew}
 
 -- Two facts of one call.
 on-with : (R : Wire → Wire → Type 0) (Q : Wire → Type 0) → (a b : Option Peer) → OnLink R a b → OfLink Q b → OnLink (λ w v. R w v × Q v) a b
@@ -163,23 +166,27 @@ download-took told part n bytes answer a b c d e x p t h l =
     (on-then (λ w u. IsAnnounced n w u × ArePart told part bytes) (IsTaken bytes (data_wire bytes)) (λ w u. (y : Wire) × (IsAnnounced n w y × ArePart told part bytes) × IsTaken bytes (data_wire bytes) y u) (λ w u v q r. (u, q, r)) a b c first t)
     last
 
+log-grew : (P : List ℕ → Type 0) (a b : Option (List ℕ)) (x : List ℕ) → Appended a b x → P x → LogGrew a b P
+log-grew P None None x f p = tt
+log-grew P None (Some b) x f p = absurd f
+log-grew P (Some a) None x f p = absurd f
+log-grew P (Some a) (Some b) x f p = (x, f, p)
+
 pub Part-loaded : (told : Option (List ℕ)) (part : Part) (n m k : ℕ) (a b c d : Seen) (line : List ℕ) → n ≡ part_len part → Concluded (Download n) a b (Load m) → Unbegun b.port.peer → IsPartSent told part b.port c.port → Finished k c d (Okay line) → d.port.log ≡ c.port.log → IsPartLoaded told part a.port d.port
 unfolding IsPartSent IsPartLoaded
 Part-loaded told part n m k a b c d line e con g s f log =
     let x = Announced-on n m a b con g in
     let is = of-first (IsAnnounced n) (ArePart told part s.bytes) a.port.peer b.port.peer x s.part_is in
+    let wire = command_wire (Download n) ++ data_wire s.bytes in
     record {
       bytes = s.bytes;
       part_is = is;
       took = download-took told part n s.bytes (reply_frames (f.infos ++ Okay line ∷ [])) a.port.peer b.port.peer c.port.peer d.port.peer e x s.part_is s.sent.took f.told f.loaded;
-      log = of-of (λ w. ArePart told part s.bytes) (λ w. Appended a.port.log d.port.log (download_wire s.bytes)) (λ w p. logged p) a.port.peer is;
+      log = log-grew (λ t. OfLink (λ w. t ≡ download_wire s.bytes) a.port.peer) a.port.log d.port.log wire
+          (subst (λ t. Appended a.port.log t wire) (sym log)
+          (Appended-append a.port.log b.port.log c.port.log (command_wire (Download n)) (data_wire s.bytes) (log-of n a b (Load m) con) s.sent.log))
+          (of-of (λ w. ArePart told part s.bytes) (λ w. wire ≡ download_wire s.bytes) (λ w p. wire-of told part n s.bytes e p) a.port.peer is);
     }
-  where
-    logged : ArePart told part s.bytes → Appended a.port.log d.port.log (download_wire s.bytes)
-    logged p =
-        subst (λ t. Appended a.port.log d.port.log t) (wire-of told part n s.bytes e p)
-        (subst (λ t. Appended a.port.log t (command_wire (Download n) ++ data_wire s.bytes)) (sym log)
-        (Appended-append a.port.log b.port.log c.port.log (command_wire (Download n)) (data_wire s.bytes) (log-of n a b (Load m) con) s.sent.log))
 
 -- A told device refuses no download that it has room for.
 one-end : (x y : Reply) (lines : List Reply) → x ∷ [] ≡ lines ++ y ∷ [] → y ≡ x
@@ -409,7 +416,6 @@ counted n m a b k = same-count (announces-download (Download n) m (suits-load (D
     same-count : Download n ≡ Download m → m ≡ n
     same-count e = cc
 
-
 pub Begun-load : (n m lines : ℕ) (a b : Seen) → ConcludedAfter (Download n) a b (Load m) lines → Unbegun b.port.peer → Kept a.port b.port → HasBegun n a b lines
 Begun-load n m lines a b k g kept = record { count = m; concluded = k.0; counted = k.1; unbegun = g; kept = kept }
 
@@ -454,17 +460,21 @@ heard-both None None fs rs x h f = tt
 heard-both None (Some b) fs rs x h f = absurd f
 heard-both (Some a) None fs rs x h f = absurd f
 heard-both (Some a) (Some b) fs rs x h f =
-    let front = handshake 1 ++ reply_frames h.0 in
-    (h.0, f ∙ (ap (λ t. t ++ (reply_frames rs ++ x)) h.1 ∙ (append_assoc front (reply_frames fs) (reply_frames rs ++ x)
-    ∙ ap (λ t. front ++ t) (sym (append_assoc (reply_frames fs) (reply_frames rs) x) ∙ ap (λ t. t ++ x) (sym (flat_map-append (λ r. frame (reply_bytes r)) fs rs))))))
+    let front = handshake 1 ++ reply_frames h.0 in (
+      h.0,
+      f ∙ (ap (λ t. t ++ (reply_frames rs ++ x)) h.1 ∙ (append_assoc front (reply_frames fs) (reply_frames rs ++ x)
+          ∙ ap (λ t. front ++ t) (sym (append_assoc (reply_frames fs) (reply_frames rs) x) ∙ ap (λ t. t ++ x) (sym (flat_map-append (λ r. frame (reply_bytes r)) fs rs))))),
+    )
 
 heard-later : (b : Option (List ℕ)) (gs hs : List Reply) (x : List ℕ) → HeardThen b (reply_frames (gs ++ hs) ++ x) → HeardThen b (reply_frames hs ++ x)
 heard-later None gs hs x h = tt
-heard-later (Some b) gs hs x h =
-    (h.0 ++ gs, h.1 ∙ (ap (λ t. (handshake 1 ++ reply_frames h.0) ++ (t ++ x)) (flat_map-append (λ r. frame (reply_bytes r)) gs hs)
-    ∙ (ap (λ t. (handshake 1 ++ reply_frames h.0) ++ t) (append_assoc (reply_frames gs) (reply_frames hs) x)
-    ∙ (sym (append_assoc (handshake 1 ++ reply_frames h.0) (reply_frames gs) (reply_frames hs ++ x))
-    ∙ ap (λ t. t ++ (reply_frames hs ++ x)) (append_assoc (handshake 1) (reply_frames h.0) (reply_frames gs) ∙ ap (λ t. handshake 1 ++ t) (sym (flat_map-append (λ r. frame (reply_bytes r)) h.0 gs)))))))
+heard-later (Some b) gs hs x h = (
+  h.0 ++ gs,
+  h.1 ∙ (ap (λ t. (handshake 1 ++ reply_frames h.0) ++ (t ++ x)) (flat_map-append (λ r. frame (reply_bytes r)) gs hs)
+      ∙ (ap (λ t. (handshake 1 ++ reply_frames h.0) ++ t) (append_assoc (reply_frames gs) (reply_frames hs) x)
+      ∙ (sym (append_assoc (handshake 1 ++ reply_frames h.0) (reply_frames gs) (reply_frames hs ++ x))
+      ∙ ap (λ t. t ++ (reply_frames hs ++ x)) (append_assoc (handshake 1) (reply_frames h.0) (reply_frames gs) ∙ ap (λ t. handshake 1 ++ t) (sym (flat_map-append (λ r. frame (reply_bytes r)) h.0 gs)))))),
+)
 
 all-both : (xs ys : List Reply) → list_all is_line xs ≡ true → list_all is_line ys ≡ true → list_all is_line (xs ++ ys) ≡ true
 all-both [] ys e f = f
@@ -498,8 +508,11 @@ heard-ended lines link.TooManyInfos a b k w h =
       later = k.infos;
       lines = all-both h.0 k.infos h.2 k.lines;
       many = (let n = k.stands.0 in let m = h.3 in omega (arith, n, m, length-append h.0 k.infos));
-      heard = inr (h.1, subst (λ t. HeardThen b.port.heard t) (append-nil (reply_frames (h.0 ++ Load h.1 ∷ k.infos)))
-          (subst (λ t. HeardThen b.port.heard (reply_frames t ++ [])) (append_assoc h.0 (Load h.1 ∷ []) k.infos) all));
+      heard = inr (
+        h.1,
+        subst (λ t. HeardThen b.port.heard t) (append-nil (reply_frames (h.0 ++ Load h.1 ∷ k.infos)))
+            (subst (λ t. HeardThen b.port.heard (reply_frames t ++ [])) (append_assoc h.0 (Load h.1 ∷ []) k.infos) all),
+      );
     }
 
 pub Ended-broken : (lines : ℕ) (a b : Seen) (e : LinkError) (error : DriveError) → error ≡ stop_of e → BrokeOff (GivesNone a.port.peer) lines a b e → Why IsNoVerdict e a.port b.port → IsGivenUp a.port b.port → Kept a.port b.port →
@@ -527,3 +540,164 @@ Ended-unshown lines a b k given kept = record {
 }
 
 pub ruleset announces = (Passes-all, counted, Okay-never)
+
+-- A whole download.
+begun-quiet : (n m : ℕ) (a b : Seen) → OfLink (λ w. n ≤ w.device.max) a.port.peer → Concluded (Download n) a b (Load m) → OfLink (λ w. Grew a.text b.text []) a.port.peer
+begun-quiet n m a b f k = quiet-none k.infos a.port.peer a.text b.text (none-said a.port.peer b.port.peer f k.told) k.shown
+  where
+    one-only : (x y : Reply) (lines : List Reply) → lines ++ y ∷ [] ≡ x ∷ [] → lines ≡ []
+    one-only x y [] e = refl
+    one-only x y (z ∷ lines) e = let l = ap length e in let m = length-append lines (y ∷ []) in absurd (omega (arith, l, m))
+
+    said : (broke : Type 0) (w u : Wire) → n ≤ w.device.max → IsAnswered broke k.payload (k.infos ++ Load m ∷ []) w u → k.infos ≡ []
+    said broke w u h (inl x) = one-only (Load n) (Load m) k.infos (x.all ∙ (ap (λ c. (says w.device w.loaded c).replies) (command_again (Download n) k.payload k.spelled) ∙ fits-replies n w h))
+    said broke w u h (inr x) = one-only (Fail (codes "disk fault")) (Load m) k.infos x.1.told
+
+    none-said : (p q : Option Peer) → OfLink (λ w. n ≤ w.device.max) p → OnLink (IsAnswered (Rose a.port.faults b.port.faults) k.payload (k.infos ++ Load m ∷ [])) p q → OfLink (λ w. k.infos ≡ []) p
+    none-said None q f t = tt
+    none-said (Some (Apart dev)) q f t = absurd f
+    none-said (Some (Joined w)) None f t = absurd t
+    none-said (Some (Joined w)) (Some (Apart dev)) f t = absurd t
+    none-said (Some (Joined w)) (Some (Joined u)) f t = said (Rose a.port.faults b.port.faults) w u f t
+
+ended-quiet : (k : ℕ) (c d : Seen) (line : List ℕ) → Downloading 0 c.port.peer → Finished k c d (Okay line) → OfLink (λ w. Grew c.text d.text []) c.port.peer
+ended-quiet k c d line s f = quiet-none f.infos c.port.peer c.text d.text (none-heard c.port.peer d.port.peer s f.told) f.shown
+  where
+    none-infos : (infos : List Reply) (end : Reply) → infos ++ end ∷ [] ≡ Okay [] ∷ [] → infos ≡ []
+    none-infos [] end e = refl
+    none-infos (z ∷ lines) end e = let l = ap length e in let m = length-append lines (end ∷ []) in absurd (omega (arith, l, m))
+
+    none-heard : (p q : Option Peer) → OfLink (IsSendingWire 0) p → OnLink (λ w v. w ≡ record v { out = reply_frames (f.infos ++ Okay line ∷ []) ++ v.out }) p q → OfLink (λ w. f.infos ≡ []) p
+    none-heard None q x t = tt
+    none-heard (Some (Apart dev)) q x t = absurd x
+    none-heard (Some (Joined w)) None x t = absurd t
+    none-heard (Some (Joined w)) (Some (Apart dev)) x t = absurd t
+    none-heard (Some (Joined w)) (Some (Joined u)) x t =
+        none-infos f.infos (Okay line) (finished (f.infos ++ Okay line ∷ []) w u x (ends-last f.infos (Okay line) f.lines refl) f.fits t).0
+
+quiet-both : (a : Option Peer) (t u v : Option (List ℕ)) → OfLink (λ w. Grew t u []) a → OfLink (λ w. Grew u v []) a → OfLink (λ w. Grew t v []) a
+quiet-both a t u v f g = of-both (λ w. Grew t u []) (λ w. Grew u v []) (λ w. Grew t v []) (λ w x y. Grew-append t u v [] [] x y) a f g
+
+-- back to where the download began
+begun-first : (n m : ℕ) (Q : Type 0) (told : Option (List ℕ)) (part : Part) (a b : Seen) (c : PortTold) → Concluded (Download n) a b (Load m) → IsPartSent told part b.port c → OfLink (λ w. Q) c.peer → OfLink (λ w. Q) a.port.peer
+unfolding IsPartSent
+begun-first n m Q told part a b c k s q =
+    of-first (IsExchanged (Rose a.port.faults b.port.faults) (Download n) (Load m)) Q a.port.peer b.port.peer (Exchanged-concluded (Download n) a b (Load m) k)
+    (of-first (IsTaken s.bytes (data_wire s.bytes)) Q b.port.peer c.peer s.sent.took q)
+
+sent-heard : (told : Option (List ℕ)) (part : Part) (b c : PortTold) → IsPartSent told part b c → c.heard ≡ b.heard
+unfolding IsPartSent
+sent-heard told part b c s = s.sent.heard
+
+pub Goes-on : (told : Option (List ℕ)) (part : Part) (n lines : ℕ) (a b : Seen) (c : PortTold) (d : Seen) → OfLink (λ w. n ≤ w.device.max) a.port.peer → HasBegun n a b lines → IsPartSent told part b.port c → HasEnded lines (seen c b.text) d → GoesOn a d
+Goes-on told part n lines a b c d fits h s e = record {
+  quiet = quiet-both a.port.peer a.text b.text d.text (begun-quiet n h.count a b fits h.concluded)
+      (begun-first n h.count (Grew b.text d.text []) told part a b c h.concluded s (ended-quiet lines (seen c b.text) d e.line (sent-due told part b.port c s) e.finished));
+  grows = record { more = shown_lines h.concluded.infos ++ shown_lines e.finished.infos; grew = Grew-append a.text b.text d.text (shown_lines h.concluded.infos) (shown_lines e.finished.infos) h.concluded.shown e.finished.shown };
+  heard = λ x. heard-again c.heard d.port.heard (e.finished.infos ++ Okay e.line ∷ [])
+      (subst (λ o. HeardThen o []) (sym (sent-heard told part b.port c s)) (heard-again a.port.heard b.port.heard (h.concluded.infos ++ Load h.count ∷ []) x h.concluded.bytes)) e.finished.bytes;
+  kept = Kept-trans a.port c d.port (Kept-sent told part a.port b.port c h.kept s) e.kept;
+}
+
+pub Loads-all : (told : Option (List ℕ)) (part : Part) (n lines : ℕ) (a b : Seen) (c : PortTold) (d : Seen) → n ≡ part_len part → HasBegun n a b lines → IsPartSent told part b.port c → HasEnded lines (seen c b.text) d → IsPartLoaded told part a.port d.port
+Loads-all told part n lines a b c d same h s e =
+    Part-loaded told part n h.count lines a b (seen c b.text) d e.line same h.concluded h.unbegun s e.finished e.log
+
+-- It broke off: at its command, amid its data, or at its end.
+why-files : (Files : List ℕ → Type 0) (a b : PortTold) (e : DriveError) → WhyStopped NoFiles a b e → WhyStopped Files a b e
+why-files F a b stop.Memory w = w
+why-files F a b (stop.Directory file) w = absurd w
+why-files F a b stop.Output w = w
+why-files F a b stop.Link w = w
+why-files F a b stop.Ended w = w
+why-files F a b (stop.Refused text) w = w
+why-files F a b (stop.Peer kept) w = w
+why-files F a b stop.TooManyInfos w = w
+why-files F a b (stop.Requirement line name value) w = w
+why-files F a b (stop.Plan line kind) w = w
+
+pub Unloaded-begun : (Files : List ℕ → Type 0) (Before : Type 0) (a b : Seen) (e : DriveError) → IsUnloaded NoFiles Before a b e → IsUnloaded Files Before a b e
+Unloaded-begun F B a b e u = record {
+  why = why-files F a.port b.port e u.why;
+  given_up = u.given_up;
+  unrefused = u.unrefused;
+  quiet = u.quiet;
+  grows = u.grows;
+  heard = u.heard;
+  kept = u.kept;
+}
+
+pub Unloaded-read : (file : List ℕ) (k l n lines : ℕ) (a b : Seen) (c : PortTold) → OfLink (λ w. n ≤ w.device.max) a.port.peer → HasBegun n a b lines → HasGivenUp b.port c → Rose k l →
+    IsUnloaded (IsUnread file k l) (HeardThen a.port.heard []) a (seen c b.text) (stop.Directory file)
+Unloaded-read file k l n lines a b c fits h g r = record {
+  why = (refl, r);
+  given_up = Data-given n h.count a b c h.concluded g;
+  unrefused = tt;
+  quiet = begun-quiet n h.count a b fits h.concluded;
+  grows = record { more = shown_lines h.concluded.infos; grew = h.concluded.shown };
+  heard = λ x. tt;
+  kept = Kept-given a.port b.port c h.kept g;
+}
+
+pub Unloaded-link : (Files : List ℕ → Type 0) (n lines : ℕ) (a b : Seen) (c : PortTold) → OfLink (λ w. n ≤ w.device.max) a.port.peer → HasBegun n a b lines → HasGivenUp b.port c → Rose b.port.faults c.faults →
+    IsUnloaded Files (HeardThen a.port.heard []) a (seen c b.text) stop.Link
+Unloaded-link F n lines a b c fits h g r = record {
+  why = (let k = h.kept.later in omega (arith, k, r));
+  given_up = Data-given n h.count a b c h.concluded g;
+  unrefused = tt;
+  quiet = begun-quiet n h.count a b fits h.concluded;
+  grows = record { more = shown_lines h.concluded.infos; grew = h.concluded.shown };
+  heard = λ x. tt;
+  kept = Kept-given a.port b.port c h.kept g;
+}
+
+why-later : (Files : List ℕ → Type 0) (a b c : PortTold) (e : DriveError) → Kept a b → (b.peer ≡ None → a.peer ≡ None) → WhyStopped NoFiles b c e → WhyStopped Files a c e
+why-later F a b c stop.Memory k n w = w
+why-later F a b c (stop.Directory file) k n w = absurd w
+why-later F a b c stop.Output k n w = w
+why-later F a b c stop.Link k n w = omega (arith, k.later, w)
+why-later F a b c stop.Ended k n w = (n w.0, omega (arith, k.no_fewer, w.1))
+why-later F a b c (stop.Refused text) k n w = w
+why-later F a b c (stop.Peer kept) k n w = n w
+why-later F a b c stop.TooManyInfos k n w = n w
+why-later F a b c (stop.Requirement line name value) k n w = w
+why-later F a b c (stop.Plan line kind) k n w = w
+
+unrefused-later : (e : DriveError) (a b : Option Peer) → (b ≡ None → a ≡ None) → Unrefused e b → Unrefused e a
+unrefused-later stop.Memory a b n u = u
+unrefused-later (stop.Directory file) a b n u = u
+unrefused-later stop.Output a b n u = u
+unrefused-later stop.Link a b n u = u
+unrefused-later stop.Ended a b n u = u
+unrefused-later (stop.Refused text) a b n u = n u
+unrefused-later (stop.Peer kept) a b n u = u
+unrefused-later stop.TooManyInfos a b n u = u
+unrefused-later (stop.Requirement line name value) a b n u = u
+unrefused-later (stop.Plan line kind) a b n u = u
+
+grows-both : (a b c : Option (List ℕ)) (x : List ℕ) → Grew a b x → Grows b c → Grows a c
+grows-both a b c x f g = record { more = x ++ g.more; grew = Grew-append a b c x g.more f g.grew }
+
+heard-data : (n m : ℕ) (a b : Seen) (c : PortTold) (lines : ℕ) (k : Concluded (Download n) a b (Load m)) → lines ≡ length k.infos → c.heard ≡ b.port.heard → HeardThen a.port.heard [] → HeardLoad lines c.heard
+heard-data n m a b c lines k e same h =
+    (k.infos, m, k.lines, sym e, subst (λ o. HeardThen o (reply_frames (k.infos ++ Load m ∷ []))) (sym same) (heard-more a.port.heard b.port.heard [] (reply_frames (k.infos ++ Load m ∷ [])) h k.bytes))
+
+pub Unloaded-ended : (Files : List ℕ → Type 0) (told : Option (List ℕ)) (part : Part) (n lines : ℕ) (a b : Seen) (c : PortTold) (d : Seen) (e : DriveError) → OfLink (λ w. n ≤ w.device.max) a.port.peer → HasBegun n a b lines → IsPartSent told part b.port c → IsUnloaded NoFiles (HeardLoad lines c.heard) (seen c b.text) d e →
+    IsUnloaded Files (HeardThen a.port.heard []) a d e
+Unloaded-ended F told part n lines a b c d e fits h s u =
+    let none : c.peer ≡ None → a.port.peer ≡ None = λ z. begun-none n h.count a b h.concluded (sent-none told part b.port c s z) in
+    let kept = Kept-sent told part a.port b.port c h.kept s in
+    record {
+      why = why-later F a.port c d.port e kept none u.why;
+      given_up = End-given told part n h.count a b c d.port h.concluded s u.given_up;
+      unrefused = unrefused-later e a.port.peer c.peer none u.unrefused;
+      quiet = quiet-both a.port.peer a.text b.text d.text (begun-quiet n h.count a b fits h.concluded) (begun-first n h.count (Grew b.text d.text []) told part a b c h.concluded s u.quiet);
+      grows = grows-both a.text b.text d.text (shown_lines h.concluded.infos) h.concluded.shown u.grows;
+      heard = λ x. u.heard (heard-data n h.count a b c lines h.concluded h.counted (sent-heard told part b.port c s) x);
+      kept = Kept-trans a.port c d.port kept u.kept;
+    }
+
+pub Sent-due : (told : Option (List ℕ)) (part : Part) (b c : PortTold) → IsPartSent told part b c → Downloading 0 c.peer
+Sent-due told part b c s = sent-due told part b c s
+
+pub ruleset loads = (Sent-due)

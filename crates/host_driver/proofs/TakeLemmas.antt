@@ -140,10 +140,12 @@ pub heard-more : (a b : Option (List ℕ)) (rs : List Reply) (x : List ℕ) → 
 heard-more None None rs x h f = tt
 heard-more None (Some b) rs x h f = absurd f
 heard-more (Some a) None rs x h f = absurd f
-heard-more (Some a) (Some b) rs x h f =
-    (h.0 ++ rs, f ∙ (ap (λ t. t ++ (reply_frames rs ++ x)) (h.1 ∙ append-nil (handshake 1 ++ reply_frames h.0))
-    ∙ (sym (append_assoc (handshake 1 ++ reply_frames h.0) (reply_frames rs) x)
-    ∙ ap (λ t. t ++ x) (append_assoc (handshake 1) (reply_frames h.0) (reply_frames rs) ∙ ap (λ t. handshake 1 ++ t) (sym (flat_map-append (λ r. frame (reply_bytes r)) h.0 rs))))))
+heard-more (Some a) (Some b) rs x h f = (
+  h.0 ++ rs,
+  f ∙ (ap (λ t. t ++ (reply_frames rs ++ x)) (h.1 ∙ append-nil (handshake 1 ++ reply_frames h.0))
+      ∙ (sym (append_assoc (handshake 1 ++ reply_frames h.0) (reply_frames rs) x)
+      ∙ ap (λ t. t ++ x) (append_assoc (handshake 1) (reply_frames h.0) (reply_frames rs) ∙ ap (λ t. handshake 1 ++ t) (sym (flat_map-append (λ r. frame (reply_bytes r)) h.0 rs))))),
+)
 
 pub heard-again : (a b : Option (List ℕ)) (rs : List Reply) → HeardThen a [] → Appended a b (reply_frames rs) → HeardThen b []
 heard-again a b rs h f = heard-more a b rs [] h (subst (Appended a b) (sym (append-nil (reply_frames rs))) f)
@@ -267,7 +269,7 @@ part-none infos None (Some b) g e = g
 part-none infos (Some a) None g e = g
 part-none infos (Some a) (Some b) g e = absurd (let short = g.fewer in omega (arith, short, ap (λ x. length (shown_lines x)) e))
 
-why-broken : (c : CommandValue) (e : LinkError) (a b : PortTold) → Why (IsUndue c) e a b → WhyStopped NoFiles a b (stop_of e)
+pub why-broken : (c : CommandValue) (e : LinkError) (a b : PortTold) → Why (IsUndue c) e a b → WhyStopped NoFiles a b (stop_of e)
 why-broken c link.Link a b w = w
 why-broken c link.Ended a b w = w
 why-broken c (link.BadHandshake four) a b w = absurd w
@@ -293,7 +295,7 @@ undue-log c None (Some b) p e f = absurd f
 undue-log c (Some a) None p e f = absurd f
 undue-log c (Some a) (Some b) p e f = (p, e, (a, f))
 
-heard-broken : (c : CommandValue) (p : List ℕ) (e : LinkError) (a b : Seen) → BrokeOff (SaysFirst c a.port.peer) 0 a b e → Why (IsUndue c) e a.port b.port → (e ≢ link.Link → LogsWhole c a.port b.port) → spelling c ≡ Some p → HeardThen a.port.heard [] → HeardAt b.port (stop_of e)
+pub heard-broken : (c : CommandValue) (p : List ℕ) (e : LinkError) (a b : Seen) → BrokeOff (SaysFirst c a.port.peer) 0 a b e → Why (IsUndue c) e a.port b.port → (e ≢ link.Link → LogsWhole c a.port b.port) → spelling c ≡ Some p → HeardThen a.port.heard [] → HeardAt b.port (stop_of e)
 unfolding LogsWhole
 heard-broken c p link.Link a b k w l spelled h = tt
 heard-broken c p link.Ended a b k w l spelled h = tt
@@ -339,7 +341,7 @@ stopped-broken c s a b e error written same at f k w l cut x kept =
       kept = kept;
     })
 
-grows-part : (a b : Option (List ℕ)) (bytes : List ℕ) → GrewPart a b bytes → Grows a b
+pub grows-part : (a b : Option (List ℕ)) (bytes : List ℕ) → GrewPart a b bytes → Grows a b
 grows-part None None bytes g = record { more = []; grew = tt }
 grows-part None (Some b) bytes g = absurd g
 grows-part (Some a) None bytes g = absurd g

@@ -1,6 +1,7 @@
 -- A piece of an image: what its download and its flash come to.
 use Rattle.std.specs.Prelude.{◌≡◌, ℕ, ◌+◌, ◌*◌, true, false, List, [], ◌∷◌, ◌++◌, length, Option, Some, None, IfSome}
 use Rattle.std.specs.List.{list_all}
+use Rattle.fb_frame.specs.Causes.{Rose}
 use Rattle.fb_frame.specs.Sinks.{Grew}
 use Rattle.fb_message.specs.CommandText.{Download}
 use Rattle.fb_message.specs.declared.reply.Reply.{Reply}
@@ -19,7 +20,7 @@ use Rattle.host_driver.specs.Driving.{Grows}
 use Rattle.host_driver.specs.HeardLast.{HeardThen, HeardAt}
 use Rattle.host_driver.specs.LinkOuts.{IsSent}
 use Rattle.host_driver.specs.Stepping.{WhyStopped}
-use Rattle.host_driver.specs.Wires.{data_wire, download_wire}
+use Rattle.host_driver.specs.Wires.{data_wire, download_wire, LogGrew}
 
 -- These bytes are those of the part, where the file is told, and as many in any case.
 pub record ArePart (told : Option (List ℕ)) (part : Part) (bytes : List ℕ) : Type 0 where
@@ -80,12 +81,23 @@ pub record IsLoadedBy (bytes : List ℕ) (w v : Wire) : Type 0 where
   pub running : v.closed ≡ false
   pub taken : v.taken ≡ w.taken + length (download_wire bytes)
 
--- The part was downloaded, over a told connection, and a told log grew by that.
+-- The part was downloaded, and a told log grew by that; over a told connection it is loaded.
 pub record LoadsPart (told : Option (List ℕ)) (part : Part) (old new : PortTold) : Type 0 where
   pub bytes : List ℕ
   pub part_is : OfLink (λ w. ArePart told part bytes) old.peer
   pub took : OnLink (IsLoadedBy bytes) old.peer new.peer
-  pub log : OfLink (λ w. Appended old.log new.log (download_wire bytes)) old.peer
+  pub log : LogGrew old.log new.log (λ wire. OfLink (λ w. wire ≡ download_wire bytes) old.peer)
 
 unfoldable pub IsPartLoaded : Option (List ℕ) → Part → PortTold → PortTold → Type 0
 IsPartLoaded told part old new = LoadsPart told part old new
+
+-- Commands were answered that change no device: of a told one nothing was shown.
+pub record GoesOn (old new : Seen) : Type 0 where
+  pub quiet : OfLink (λ w. Grew old.text new.text []) old.port.peer
+  pub grows : Grows old.text new.text
+  pub heard : HeardThen old.port.heard [] → HeardThen new.port.heard []
+  pub kept : Kept old.port new.port
+
+-- the file failed: it is this one, and its count of faults rose
+abbrev pub IsUnread : List ℕ → ℕ → ℕ → List ℕ → Type 0
+IsUnread file before now name = (name ≡ file) × Rose before now

@@ -8,14 +8,20 @@ ghost use Rattle.wire_told.specs.Answered.{Free, Downloading};
 ghost use Rattle.wire_told.specs.Peers.{OfLink};
 ghost use Rattle.host_driver.specs.HeardLast.{HeardThen};
 ghost use Rattle.host_driver.specs.PutPieces.{HasBegun, HasEnded, HeardLoad, IsUnloaded};
+ghost use Rattle.host_driver.specs.PutPieces.{IsPartLoaded, GoesOn, IsUnread};
 ghost use Rattle.host_driver.specs.Stepping.{TakesAll, NoFiles};
 
 use crate::drive::DriveError;
+use crate::send_piece::send_piece;
 use crate::step::stopped;
 use fb_frame::sink::Sink;
+use fb_frame::word::Word;
 use fb_link::port::Port;
 use fb_link::states::{Answer, Lost, Ready, Sending};
 use fb_message::command::Command;
+use sparse_image::errors::PieceFault;
+use sparse_image::piece::Piece;
+use sparse_image::source::Bytes;
 
 /// Announces a download of so many bytes.
 #[tactic(auto, using(crate::proofs::LoadLemmas::announces))]
@@ -71,5 +77,50 @@ fn conclude<P: Port, S: Sink>(
         Answer::Broken(lost, error) => Err((lost, stopped(error))),
         Answer::Load(_) => unreachable!(),
         Answer::Unshown(lost) => Err((lost, DriveError::Output)),
+    }
+}
+
+/// Downloads a piece of this file.
+#[tactic(auto, using(crate::proofs::LoadLemmas::loads))]
+pub(crate) fn load_piece<P: Port, B: Bytes, S: Sink>(
+    ready: Ready<P>,
+    piece: &Piece<'_>,
+    file: &Word,
+    source: &mut B,
+    shown: &mut S,
+) -> Result<Ready<P>, (Lost<P>, DriveError)>
+    requires takes { TakesAll P.takes }
+    requires free { Free (P.told ready).peer }
+    requires fits { OfLink (λ w. part_len piece.now ≤ w.device.max) (P.told ready).peer }
+    requires len { B.size source.old ≡ piece.now.kept.source_len }
+    requires told { IsChecked (B.content source.old) (Ok piece.now.kept) }
+    ensures loaded { IfOk result (λ r.
+        IsPartLoaded (B.content source.old) piece.now (P.told ready) (P.told r)) }
+    ensures goes { IfOk result (λ r.
+        GoesOn (seen (P.told ready) (S.text shown.old)) (seen (P.told r) (S.text shown.new))) }
+    ensures unloaded { IfErr result (λ e. IsUnloaded
+        (IsUnread file.now (B.faults source.old) (B.faults source.new)) (HeardThen (P.told ready).heard [])
+        (seen (P.told ready) (S.text shown.old)) (seen (P.told e.0) (S.text shown.new)) e.1) }
+    ensures same { IfOk result (λ r. P.lent r ≡ P.lent ready) }
+    ensures same_lost { IfErr result (λ e. P.lent e.0 ≡ P.lent ready) }
+    ensures shown_later { S.faults shown.old ≤ S.faults shown.new }
+    ensures output { IfErr result (λ e.
+        e.1 ≡ DriveError.Output → Rose (S.faults shown.old) (S.faults shown.new)) }
+    ensures content { B.content source.new ≡ B.content source.old }
+    ensures size { B.size source.new ≡ B.size source.old }
+    ensures source_same { B.lent source.new ≡ B.lent source.old }
+    ensures read_later { B.faults source.old ≤ B.faults source.new }
+{
+    let sending = match announce(ready, piece.size(), shown) {
+        Ok(sending) => sending,
+        Err(stop) => return Err(stop),
+    };
+    match send_piece(sending, piece, source) {
+        Ok(sending) => match conclude(sending, shown) {
+            Ok(ready) => Ok(ready),
+            Err(stop) => Err(stop),
+        },
+        Err((lost, PieceFault::Read)) => Err((lost, DriveError::Directory(*file))),
+        Err((lost, PieceFault::Out)) => Err((lost, DriveError::Link)),
     }
 }
