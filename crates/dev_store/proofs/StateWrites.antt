@@ -1,14 +1,14 @@
 -- A state that is written over both records, and what the image stands for then or where the disk failed.
-use Rattle.std.proofs.Common.{arith, ◌≡◌, ◌∙◌, refl, ap, sym, subst, inl, inr, ℕ, ◌+◌, ◌≤◌, Bool, true, false, List, length, take, drop, Option, Some, None}
+use Rattle.std.proofs.Common.{arith, ◌≡◌, ◌∙◌, refl, ap, sym, subst, inl, inr, ℕ, ◌≤◌, Bool, true, false, List, length, take, drop, Option, Some, None}
 use Rattle.std.specs.Prelude.{◌⊎◌, IsTrue, IfSome, Result, OnOk, OnErr}
 use Rattle.std.specs.Option.{option_or}
 use Rattle.fb_frame.specs.Told.{Both}
 use Rattle.super_meta.specs.Contents.{Content}
-use Rattle.dev_disk.specs.Files.{IsInside, DifferWithin, written, copy, Tears}
+use Rattle.dev_disk.specs.Files.{DifferWithin, written, copy, Tears}
 use Rattle.dev_disk.specs.Honest.{ReadsAs}
 use Rattle.dev_disk.specs.declared.twin.Twin.{Twin}
 use Rattle.dev_disk.specs.Disks.{DiskTold, open_bytes}
-use Rattle.dev_disk.specs.Twins.{IsTwin, IsLeft, IsLeftAt, IsFirstLeft, IsSecondLeft, WroteBoth, WroteOne, WritesTwin, FailsTwin}
+use Rattle.dev_disk.specs.Twins.{IsLeft, IsLeftAt, IsFirstLeft, IsSecondLeft, WroteBoth, WroteOne, WritesTwin, FailsTwin}
 use Rattle.dev_disk.proofs.TwinLemmas.{HasRange}
 use Rattle.dev_store.specs.declared.state.State.{State}
 use Rattle.dev_store.specs.Faults.{IsHonest}
@@ -28,15 +28,7 @@ use Rattle.dev_store.specs.Held.{IsWhole}
 use Rattle.dev_store.specs.Reading.{IsStored, held_by, table_within}
 use Rattle.dev_store.proofs.StoredLemmas.{IsHeld, stands-for, held-in, whole-now, stored-now, stored-broken}
 use Rattle.dev_store.proofs.RecordLemmas.{one_state_reads}
-use Rattle.dev_store.proofs.StateRepairs.{IsBlock, IsOneLeft, reads-block, one-written, one-left, widened, within-then, both-told, either-call}
-
-pub is-twin : (size : Option ℕ) (twin : Twin) → twin ≡ state_places → IsInside size 0 12288 → IsTwin twin size
-is-twin None twin e h = absurd h
-is-twin (Some n) twin e h = subst (λ t. IsTwin t (Some n)) (sym e) (record {
-  first_inside = omega (arith, h);
-  second_inside = omega (arith, h);
-  apart = inl (omega arith);
-})
+use Rattle.dev_store.proofs.StateRepairs.{IsBlock, reads-block, one-written, one-left, widened, within-then, both-told, either-call}
 
 -- both records were written
 pub both-mended : (slots : ℕ) (state : State) (block old new : List ℕ) → IsBlock slots state block → WroteBoth state_places block old new → AreStatesMended slots state new

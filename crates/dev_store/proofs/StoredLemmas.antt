@@ -9,9 +9,8 @@ use Rattle.dev_store.specs.declared.state.State.{State}
 use Rattle.dev_store.specs.declared.super_read.SuperRead.{SuperRead}
 use Rattle.dev_store.specs.declared.image_read.ImageRead.{ImageRead}
 use Rattle.dev_store.specs.Layouts.{LayoutValue, image_size}
-use Rattle.dev_store.specs.States.{start_mode}
-use Rattle.dev_store.specs.Stand.{Stands, Starts, Settled, owned, owned_by, owned_in}
-use Rattle.dev_store.specs.Held.{device_held, IsSettled, IsSound, IsWhole, IsKept}
+use Rattle.dev_store.specs.Stand.{Stands, Settled, owned_by, owned_in}
+use Rattle.dev_store.specs.Held.{device_held, IsSettled, IsWhole, IsKept}
 use Rattle.dev_store.specs.PartWrites.{IsImageOf, IsTableOf}
 use Rattle.dev_store.specs.Reading.{IsReadSound, IsWithinSound, IsStored, held_by, table_within, owned_within}
 use Rattle.dev_store.proofs.OpenLemmas.{owned-laid}
@@ -115,13 +114,6 @@ same-stored told old new layout state within buffer false h f =
     let same = sym (same-bytes (told old) (told new) f) in
     stored-now told new layout state within buffer (subst (IsKept layout state (table_within within)) same h.kept) (h.super refl)
     (subst (λ o. IfSome o (IsHeld layout state (table_within within))) same (held-in told old layout state within buffer h)) (f.length ∙ h.opened) h.room
-
-pub same-sound : {K : Type 0} (told : K → DiskTold) (old new : K) (layout : LayoutValue) (state : State) (within : Option SuperRead) (buffer : List ℕ) (broken now : Bool) → broken ≡ false →
-    IsStored told (held_by told old layout state within broken) layout state within buffer → FilesKept (told old) (told new) → IsSound told (held_by told new layout state within now)
-same-sound told old new layout state within buffer true now e h f = absurd cc
-same-sound told old new layout state within buffer false now e h f =
-    let s = ((same-stored told old new layout state within buffer false h f).whole refl).sound in
-    record { valid = s.valid; stands = s.stands }
 
 -- it breaks
 pub breaks : {K : Type 0} (told : K → DiskTold) (disk : K) (layout : LayoutValue) (state : State) (within : Option SuperRead) (buffer : List ℕ) (broken : Bool) →

@@ -1,6 +1,6 @@
 -- Copies of a block that are written in a row, and what the disk leaves of them where it failed.
-use Rattle.std.proofs.Common.{◌≡◌, ◌∙◌, refl, ap, sym, subst, inl, inr, ℕ, zero, suc, Bool, true, false, ◌+◌, ◌*◌, ◌-◌, ◌<◌, ◌≤◌, List, [], ◌++◌, length, take, drop, Option, Some, None, arith, append-nil}
-use Rattle.std.specs.Prelude.{◌⊎◌, IfSome, nat_lt}
+use Rattle.std.proofs.Common.{◌≡◌, ◌∙◌, refl, ap, sym, subst, inl, inr, ℕ, zero, suc, Bool, true, false, ◌+◌, ◌*◌, ◌-◌, ◌<◌, ◌≤◌, List, [], length, take, drop, Option, Some, None, arith, append-nil}
+use Rattle.std.specs.Prelude.{IfSome, nat_lt}
 use Rattle.std.proofs.lemmas.Bool.Decides.{nat_tests}
 use Rattle.std.proofs.Math.Nat.{mul-le-mul_right}
 use Rattle.fb_frame.specs.Told.{Both}
@@ -17,8 +17,8 @@ use Rattle.dev_store.specs.SuperBounds.{IsBounded}
 use Rattle.dev_store.specs.TableWrites.{AreSomeWritten, AreLeft, copy_in, AreCopiesWritten, AreCopiesLeft}
 use Rattle.dev_store.proofs.MadeParts.{length-copies, copy-at}
 use Rattle.dev_store.proofs.WrittenLemmas.{written-none}
-use Rattle.dev_store.proofs.PlaceLemmas.{copy-inside, tables-inside, place-before}
-use Rattle.dev_store.proofs.SuperRepairLemmas.{widen, differ-then, differ-self, both-map, both-start-then}
+use Rattle.dev_store.proofs.PlaceLemmas.{copy-inside, tables-inside}
+use Rattle.dev_store.proofs.SuperRepairLemmas.{widen, differ-then, both-map, both-start-then}
 
 -- a write of the next block failed
 some-left : (torn : Tears) (o p q : Option (List ℕ)) (at place k count : ℕ) (block : List ℕ) → k < count → place ≡ at + k * length block → Wrote o p at (copies k block) →

@@ -1,6 +1,6 @@
 -- Copies of a table that were written: what the image stands for then, or where the disk failed.
-use Rattle.std.proofs.Common.{arith, ◌≡◌, ◌∙◌, refl, ap, sym, subst, inl, inr, ℕ, ◌+◌, ◌*◌, ◌-◌, ◌<◌, ◌≤◌, Bool, true, false, List, length, take, drop, sum_by, Option, Some, None, if◌then◌else◌}
-use Rattle.std.specs.Prelude.{◌⊎◌, IsTrue, IfSome}
+use Rattle.std.proofs.Common.{arith, ◌≡◌, ◌∙◌, refl, ap, sym, subst, inl, inr, ℕ, ◌+◌, ◌*◌, ◌-◌, ◌<◌, ◌≤◌, Bool, true, false, List, length, take, drop, Option, Some, None, if◌then◌else◌}
+use Rattle.std.specs.Prelude.{◌⊎◌, IfSome}
 use Rattle.std.specs.Option.{option_or}
 use Rattle.std.specs.Result.{result_ok}
 use Rattle.fb_frame.specs.Told.{Both}
@@ -11,22 +11,20 @@ use Rattle.dev_disk.specs.Honest.{ReadsAs}
 use Rattle.dev_disk.specs.Twins.{IsLeft}
 use Rattle.dev_disk.proofs.Writes.{kept-outside}
 use Rattle.dev_disk.proofs.HonestLemmas.{left-reads}
-use Rattle.dev_model.specs.declared.device.Dev.{Dev}
 use Rattle.dev_store.specs.declared.layout.SuperPart.{SuperPart}
 use Rattle.dev_store.specs.declared.state.State.{State}
 use Rattle.dev_store.specs.Faults.{IsHonest}
 use Rattle.dev_store.specs.LayoutLines.{first_unit}
 use Rattle.dev_store.specs.Layouts.{LayoutValue, layout_in, parts_end, image_size}
-use Rattle.dev_store.specs.States.{record_of, record_in, state_copy}
-use Rattle.dev_store.specs.Supers.{geometry_copy, holds_geometry, copy_place, copy_reads, table_read}
+use Rattle.dev_store.specs.States.{record_of, state_copy}
+use Rattle.dev_store.specs.Supers.{geometry_copy, holds_geometry, copy_reads, table_read}
 use Rattle.dev_store.specs.Stand.{Stands, Settled, IsAlike, SuperIsAlike, super_bytes, super_value, physical_at, device_with}
 use Rattle.dev_store.specs.SuperBounds.{IsBounded, geometry_place}
 use Rattle.dev_store.specs.SuperRepairs.{SaysTable, AreTablesMended}
-use Rattle.dev_store.specs.Held.{IsKept, IsTabled, device_held, super_by}
+use Rattle.dev_store.specs.Held.{IsKept, device_held, super_by}
 use Rattle.dev_store.specs.PartWrites.{IsImageOf, IsTableOf, HasTableIn}
 use Rattle.dev_store.specs.StoreCalls.{StandsAround, HasTable, first_table, first_copy}
 use Rattle.dev_store.specs.TableWrites.{copy_in, AreCopiesWritten, AreCopiesLeft, IsTableAround}
-use Rattle.dev_store.proofs.UnitLemmas.{bounded}
 use Rattle.dev_store.proofs.RecordLemmas.{one_table_reads}
 use Rattle.dev_store.proofs.RepairLemmas.{logicals-same}
 use Rattle.dev_store.proofs.PlaceLemmas.{reads-at, geometry-at, block-before}

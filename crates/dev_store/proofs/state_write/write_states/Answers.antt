@@ -2,7 +2,7 @@ use Rattle.std.proofs.Common.{arith}
 use Rattle.dev_disk.specs.Disks.{open_bytes}
 use Rattle.dev_disk.proofs.TwinLemmas.{content-range}
 use Rattle.dev_store.proofs.StateRepairs.{ok-more, err-more}
-use Rattle.dev_store.proofs.StateWrites.{is-twin, states-written, states-within, states-left}
+use Rattle.dev_store.proofs.StateWrites.{states-written, states-within, states-left}
 use Rattle.dev_store.proofs.state_write.write_states.Goals as goal
 
 pub returns-clause-written : goal.returns-clause-written

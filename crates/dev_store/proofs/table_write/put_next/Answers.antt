@@ -1,10 +1,8 @@
 use Rattle.std.proofs.Common.{◌∙◌, ap, sym, subst, length}
 use Rattle.std.specs.Result.{result_ok}
-use Rattle.fb_frame.specs.Told.{Both}
 use Rattle.super_meta.specs.Contents.{content}
 use Rattle.dev_disk.specs.Disks.{open_bytes}
 use Rattle.dev_store.specs.SuperRepairs.{SaysTable}
-use Rattle.dev_store.specs.TableWrites.{AreCopiesWritten, AreCopiesLeft}
 use Rattle.super_meta.proofs.GivenLemmas.{gives}
 use Rattle.dev_store.proofs.OpenWhole.{lent-is}
 use Rattle.dev_store.proofs.SuperRepairLemmas.{both-map}

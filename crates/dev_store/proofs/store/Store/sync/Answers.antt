@@ -1,4 +1,4 @@
-use Rattle.std.proofs.Common.{◌≡◌, ◌∙◌, ap}
+use Rattle.std.proofs.Common.{◌∙◌, ap}
 use Rattle.dev_store.proofs.StoredLemmas.{same-stored}
 use Rattle.dev_store.proofs.store.Store.sync.Goals as goal
 
