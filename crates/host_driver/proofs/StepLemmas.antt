@@ -104,4 +104,3 @@ table-decides name file tables wipe dev e n =
 
 pub decisions : Decisions
 decisions = record { active = active-decides; resize = resize-decides; wipe = wipe-decides; put = put-decides; table = table-decides; boot = boot-boots }
-

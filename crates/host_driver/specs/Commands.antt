@@ -1,5 +1,5 @@
 -- A step of a plan as a command, and what a told device does to it (fastboot README, command reference).
-use Rattle.std.specs.Prelude.{◌≡◌, ℕ, true, false, List, Bool, Some}
+use Rattle.std.specs.Prelude.{◌≡◌, ℕ, true, false, List, Bool, Option, Some, None}
 use Rattle.fb_frame.specs.declared.slot.Slot.{Slot}
 use Rattle.fb_frame.specs.declared.tables.Tables.{Tables}
 use Rattle.fb_message.specs.declared.command.BootTarget.{BootTarget}
@@ -15,6 +15,8 @@ use Rattle.dev_model.specs.Refusals.{refusal_of}
 use Rattle.dev_model.specs.Steps.{can, apply}
 use Rattle.wire_model.specs.Says.{Loaded, says, decides, leaves, mode_of}
 use Rattle.wire_model.specs.TableFile.{tables_of}
+use Rattle.flash_plan.specs.declared.plan.Order.{Order}
+use Rattle.flash_plan.specs.declared.plan.Order.TheVariants as order
 
 -- To this command the device refuses the step or takes it, whichever it does.
 abbrev pub IsDecided : CommandValue → Step → Dev → Loaded → Type 0
@@ -87,3 +89,12 @@ IsCommandOf (Reboot what) step dev loaded = step ≡ Boot (mode_of what)
 IsCommandOf (Flash name) step dev loaded = PutsLoaded name step loaded
 IsCommandOf (UpdateSuper name wipe) step dev loaded = BringsLoaded name wipe step dev loaded
 IsCommandOf _ step dev loaded = ⊥
+
+-- the command of an order that takes one alone; an image and tables are downloaded before theirs
+abbrev pub command_for : Order → Option CommandValue
+command_for (order.Active slot) = Some (SetActive slot)
+command_for (order.Resize name size) = Some (command.Resize name size)
+command_for (order.Put name place) = None
+command_for (order.Wipe name) = Some (Erase name)
+command_for (order.Table name wipe) = None
+command_for (order.Boot what) = Some (Reboot what)

@@ -10,3 +10,4 @@ pub mod LinkOuts
 pub mod Logs
 pub mod PutPieces
 pub mod Stepping
+pub mod Excluded

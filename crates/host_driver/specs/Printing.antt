@@ -34,18 +34,22 @@ boot_text target.Fastboot = codes "reboot fastboot"
 boot_text target.Recovery = codes "reboot recovery"
 
 -- the words of a step; an image is named by its length
-abbrev pub step_text : List ℕ → Order → List ℕ
-step_text sizes (Active slot) = codes "set_active " ++ letter slot ∷ []
-step_text sizes (Resize name size) = codes "resize " ++ name ++ codes " " ++ decimal size
-step_text sizes (Put name place) =
-    codes "flash " ++ name ++ codes " " ++ decimal (slice_index_or sizes place 0)
-step_text sizes (Wipe name) = codes "erase " ++ name
-step_text sizes (Table name wipe) = codes "update-super " ++ name ++ (if wipe then codes " wipe" else [])
-step_text sizes (Boot what) = boot_text what
+abbrev pub step_text : ℕ → Order → List ℕ
+step_text long (Active slot) = codes "set_active " ++ letter slot ∷ []
+step_text long (Resize name size) = codes "resize " ++ name ++ codes " " ++ decimal size
+step_text long (Put name place) = codes "flash " ++ name ++ codes " " ++ decimal long
+step_text long (Wipe name) = codes "erase " ++ name
+step_text long (Table name wipe) = codes "update-super " ++ name ++ (if wipe then codes " wipe" else [])
+step_text long (Boot what) = boot_text what
+
+-- how long the image is that a step puts, of images with these lengths
+abbrev pub image_long : List ℕ → Order → ℕ
+image_long sizes (Put name place) = slice_index_or sizes place 0
+image_long sizes _ = 0
 
 -- the line of a step that was acknowledged
 abbrev pub step_line : List ℕ → Order → List ℕ
-step_line sizes order = step_text sizes order ++ 10 ∷ []
+step_line sizes order = step_text (image_long sizes order) order ++ 10 ∷ []
 
 -- the line before the K-th retry
 abbrev pub retry_line : ℕ → List ℕ

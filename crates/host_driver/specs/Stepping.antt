@@ -1,10 +1,11 @@
 -- A step of a plan by its command, over a connection: what it comes to where it is acknowledged, and where the
 -- attempt breaks off in it.
 use Rattle.std.specs.Prelude.{◌≡◌, ◌⊎◌, ℕ, ◌+◌, List, [], ◌∷◌, Option, None, IsTrue, IsFalse}
+use Rattle.std.specs.Prelude.{unwrap_or}
 use Rattle.fb_frame.specs.Causes.{Rose}
 use Rattle.fb_frame.specs.Framing.{head}
 use Rattle.fb_frame.specs.Sinks.{Grew}
-use Rattle.fb_message.specs.CommandText.{CommandValue}
+use Rattle.fb_message.specs.CommandText.{CommandValue, Unknown}
 use Rattle.dev_model.specs.declared.device.Dev.{Dev}
 use Rattle.dev_model.specs.declared.device.Mode.TheVariants.{Halted}
 use Rattle.dev_model.specs.declared.step.Step.{Step}
@@ -18,17 +19,18 @@ use Rattle.wire_told.specs.Exchanges.{IsFreeFor}
 use Rattle.wire_told.specs.Peers.{Peer, OfLink}
 use Rattle.wire_told.specs.Ports.{PortTold, Kept}
 use Rattle.wire_told.specs.Turns.{CommandTest}
+use Rattle.flash_plan.specs.declared.plan.Order.{Order}
 use Rattle.fb_link.specs.Seen.{Seen}
 use Rattle.fb_link.specs.declared.link_error.LinkError.{LinkError}
 use Rattle.fb_link.specs.declared.link_error.LinkError.TheVariants as link
 use Rattle.host_driver.specs.declared.drive.DriveError.{DriveError}
 use Rattle.host_driver.specs.declared.drive.DriveError.TheVariants as stop
-use Rattle.host_driver.specs.Commands.{IsCommandOf, TookStep, RefusedStep}
+use Rattle.host_driver.specs.Commands.{IsCommandOf, TookStep, RefusedStep, command_for}
 use Rattle.host_driver.specs.Driven.{IsHaltedNow}
 use Rattle.host_driver.specs.Driving.{Grows}
 use Rattle.host_driver.specs.HeardLast.{HeardThen, HeardAt}
 use Rattle.host_driver.specs.Jobs.{OfTold}
-use Rattle.host_driver.specs.Wires.{LogGrew}
+use Rattle.host_driver.specs.Wires.{LogGrew, command_wire}
 
 -- the port takes every command
 abbrev pub TakesAll : CommandTest → Type 0
@@ -110,3 +112,7 @@ pub record IsStopped (Files : List ℕ → Type 0) (step : Step) (old new : Seen
 -- no file is read
 abbrev pub NoFiles : List ℕ → Type 0
 NoFiles file = ⊥
+
+-- what an order sends that is one command
+abbrev pub IsAlone : Order → List ℕ → Type 0
+IsAlone order bytes = bytes ≡ command_wire (unwrap_or (command_for order) Unknown)

@@ -47,7 +47,10 @@ pub enum DriveError {
     },
     /// No plan is made at this line of fastboot-info.txt; 0 stands before all lines.
     #[error("no plan is made for the device")]
-    Plan { line: u32, kind: PlanKind },
+    Plan {
+        line: u32,
+        kind: PlanKind,
+    },
 }
 
 /// What became of an installation. `acknowledged` counts for each attempt the steps that were answered.

@@ -3,18 +3,23 @@
 
 ghost use Rattle.host_driver.specs.Commands.{Decisions};
 ghost use Rattle.host_driver.specs.Completing.{Completes, RefusesExactly};
+ghost use Rattle.host_driver.specs.Excluded.{Excluded};
 
 pub mod before;
 pub mod drive;
+mod lines;
 pub mod link_out;
 pub mod load_piece;
 pub mod log_port;
 pub mod send_piece;
 mod step;
+#[cfg(test)]
+mod tests;
 
 /// The laws of installations.
 pub fn laws()
     ensures completes { Completes }
     ensures refuses_exactly { RefusesExactly }
     ensures decisions { Decisions }
+    ensures excluded { Excluded }
 {}

@@ -1,13 +1,16 @@
-//! A step of a plan that is decided by one command.
-ghost use Rattle.std.specs.Prelude.{◌≡◌, ◌≤◌, ◌<◌, ◌^◌, ℕ, IsTrue, IfOk, IfErr, is_some};
+//! A step of a plan by its command.
+ghost use Rattle.std.specs.Prelude.{◌≡◌, ◌≤◌, ◌<◌, ◌^◌, ℕ, IsTrue, IfOk, IfErr, is_some, option_map, List};
 ghost use Rattle.fb_frame.specs.Causes.{Rose};
 ghost use Rattle.fb_frame.specs.NameText.{IsName};
 ghost use Rattle.fb_message.specs.CommandText.{command_value, spelling};
+ghost use Rattle.fb_frame.specs.declared.tables.Tables.{Tables};
+ghost use Rattle.dev_model.specs.declared.cells.Cell.{Cell};
 ghost use Rattle.dev_model.specs.declared.step.Step.{Step};
 ghost use Rattle.fb_link.specs.Seen.{seen};
-ghost use Rattle.host_driver.specs.Commands.{takes_step};
+ghost use Rattle.flash_plan.specs.Plans.{step_of};
+ghost use Rattle.host_driver.specs.Commands.{takes_step, command_for};
 ghost use Rattle.host_driver.specs.Stepping.{TakesAll, Serving, IsCommandAt, IsStepped, IsStopped, stop_of};
-ghost use Rattle.host_driver.specs.Stepping.{NoFiles};
+ghost use Rattle.host_driver.specs.Stepping.{NoFiles, IsAlone};
 ghost use Rattle.host_driver.specs.Wires.{command_wire};
 
 use crate::drive::DriveError;
@@ -18,6 +21,7 @@ use fb_link::port::Port;
 use fb_link::states::{Answer, Lost, Ready};
 use fb_message::command::Command;
 use fb_message::packet::Packet;
+use flash_plan::plan::Order;
 
 /// What a lost connection is to an installation.
 pub(crate) fn stopped(error: LinkError) -> DriveError
@@ -95,5 +99,47 @@ pub(crate) fn take<P: Port, S: Sink>(
         Answer::Broken(lost, error) => Err((lost, stopped(error))),
         Answer::Load(_) => unreachable!(),
         Answer::Unshown(lost) => Err((lost, DriveError::Output)),
+    }
+}
+
+/// The command of a step that takes one alone; an image and tables are downloaded before theirs.
+pub(crate) fn command_for(order: &Order) -> Option<Command<'static>>
+    ensures { option_map command_value result ≡ command_for order.now }
+{
+    match order {
+        Order::Active(slot) => Some(Command::SetActive(*slot)),
+        Order::Resize(name, size) => Some(Command::Resize(*name, *size)),
+        Order::Wipe(name) => Some(Command::Erase(*name)),
+        Order::Boot(what) => Some(Command::Reboot(*what)),
+        Order::Put(_, _) => None,
+        Order::Table(_, _) => None,
+    }
+}
+
+/// Takes a step that is one command: a slot made active, a new length, an erasure or a reboot.
+#[tactic(auto, using(crate::proofs::OrderLemmas::orders))]
+pub(crate) fn take_alone<P: Port, S: Sink>(
+    ready: Ready<P>,
+    order: &Order,
+    shown: &mut S,
+) -> Result<Ready<P>, (Lost<P>, DriveError)>
+    requires takes { TakesAll P.takes }
+    requires alone { IsTrue (is_some (command_for order.now)) }
+    requires serving { Serving 4104 (P.told ready).peer }
+    ensures same { IfOk result (λ r. P.lent r ≡ P.lent ready) }
+    ensures same_lost { IfErr result (λ e. P.lent e.0 ≡ P.lent ready) }
+    ensures stepped { IfOk result (λ r. (images : List (List Cell)) (tables : Tables) →
+        IsStepped 4104 (IsAlone order.now) (step_of images tables order.now)
+        (seen (P.told ready) (S.text shown.old)) (seen (P.told r) (S.text shown.new))) }
+    ensures stopped { IfErr result (λ e. (images : List (List Cell)) (tables : Tables) →
+        IsStopped NoFiles (step_of images tables order.now)
+        (seen (P.told ready) (S.text shown.old)) (seen (P.told e.0) (S.text shown.new)) e.1) }
+    ensures shown_later { S.faults shown.old ≤ S.faults shown.new }
+    ensures output { IfErr result (λ e.
+        e.1 ≡ DriveError.Output → Rose (S.faults shown.old) (S.faults shown.new)) }
+{
+    match command_for(order) {
+        Some(command) => take(ready, &command, shown),
+        None => unreachable!(),
     }
 }
