@@ -1,5 +1,5 @@
 -- How the next table is built: one partition after another, each with the maximal runs of its units.
-use Rattle.std.specs.Prelude.{◌≡◌, ℕ, ◌-◌, ◌^◌, Bool, List, [], ◌∷◌, ◌++◌, length, take, drop, map, sum_by, nat_lt, Some, IsTrue}
+use Rattle.std.specs.Prelude.{◌≡◌, ℕ, ◌+◌, ◌-◌, ◌^◌, Bool, List, [], ◌∷◌, ◌++◌, length, take, drop, map, sum_by, nat_lt, Option, Some, option_to_list, IsTrue}
 use Rattle.std.specs.List.{list_all, flat_map}
 use Rattle.unit_alloc.specs.Owning.{Owning, units_of}
 use Rattle.fb_frame.specs.declared.tables.TableGroup.{TableGroup}
@@ -95,6 +95,14 @@ planned_all c (p ∷ partitions) (part ∷ parts) = planned_as c p part ∷ plan
 -- those from one place up to another
 abbrev pub planned_range : Content → List ℕ → ℕ → ℕ → List Planned
 planned_range c parts from to = take (to - from) (drop from (planned_all c c.partitions parts))
+
+-- the table of this super with the version and the groups of a table, in which no partition is listed
+abbrev pub headed : SuperPart → Content → Content
+headed s c = with_groups (bare_table s c.minor c.flags) c.groups
+
+-- these with the one at a place replaced, by none or by one; past the end one is appended
+abbrev pub replaced : ℕ → Option Planned → List Planned → List Planned
+replaced place planned all = take place all ++ (option_to_list planned ++ drop (place + 1) all)
 
 -- the bytes of the partition can be counted in 64 bits
 abbrev pub is_short : Content → Partition → Bool

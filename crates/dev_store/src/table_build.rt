@@ -147,8 +147,8 @@ impl SuperPart {
     pub(crate) fn add_range(
         &self,
         next: &mut Table,
-        owners: &Owners,
         table: &Table,
+        owners: &Owners,
         parts: &[u32],
         from: usize,
         to: usize,
