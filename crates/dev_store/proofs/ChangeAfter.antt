@@ -72,6 +72,16 @@ entries-self s c super [] long pos placed = tt
 entries-self s c super (e ∷ es) long pos placed =
     (record { name = refl; attributes = refl; group = refl; long = sym (logical-long s c super e long pos placed); units = refl }, entries-self s c super es long pos placed)
 
+-- and so they are in a store
+pub store-entries : (layout : LayoutValue) (s : SuperPart) (state : State) (c : Content) (o : Owning) (parts file : List ℕ) → IsStoreSuper layout s state c o parts file →
+    AreEntriesOf s c c.partitions (device_in layout state c file).logical (map (units_of s c) c.partitions)
+store-entries layout s state c o parts file h =
+    let d = store-device layout s state c o parts file h in
+    let u = store-units layout s state c o parts file h in
+    let four = d.bounded.unit in
+    subst (λ ps. AreEntriesOf s c c.partitions ps (map (units_of s c) c.partitions)) (sym (held-logical layout s state c file h.part))
+    (entries-self s c (super_bytes layout s file) c.partitions d.long (omega arith) u.placed)
+
 -- the device of a table is the same over a file in which its partitions lie as they did
 pub device-before : (layout : LayoutValue) (s : SuperPart) (state : State) (c : Content) (o : Owning) (parts old new : List ℕ) → IsStoreSuper layout s state c o parts old →
     physical_at 12288 layout.physical new ≡ physical_at 12288 layout.physical old →
@@ -80,15 +90,11 @@ pub device-before : (layout : LayoutValue) (s : SuperPart) (state : State) (c : 
 device-before layout s state c o parts old new h physical lies =
     let dev = device_in layout state c old in
     let d = store-device layout s state c o parts old h in
-    let u = store-units layout s state c o parts old h in
-    let four = d.bounded.unit in
     let is = held-is layout s state c old h.part in
     let lists = store-lists layout s state c o parts old h in
     let f = by_name o parts dev.logical in
     held-as layout s state c new dev (map (λ p. f p.name) dev.logical) h.part
     (d.same ∙ ap (λ ps. device_with layout state ps (value_in dev)) (sym physical))
     (record { minor = sym (ap (λ (x : Dev). x.table_minor) is); flags = sym (ap (λ (x : Dev). x.table_flags) is); groups = sym (ap (λ (x : Dev). x.groups) is) })
-    (subst (AreEntriesOf s c c.partitions dev.logical) lists
-    (subst (λ ps. AreEntriesOf s c c.partitions ps (map (units_of s c) c.partitions)) (sym (held-logical layout s state c old h.part))
-    (entries-self s c (super_bytes layout s old) c.partitions d.long (omega arith) u.placed)))
+    (subst (AreEntriesOf s c c.partitions dev.logical) lists (store-entries layout s state c o parts old h))
     (each-lie s (super_bytes layout s new) f dev.logical lies)

@@ -48,7 +48,7 @@ suc-of : (a b : ℕ) → suc a ≡ suc b → a ≡ b
 suc-of a b e = omega arith
 
 -- one more part, and one more partition
-many-more : (parts : List ℕ) (ps : List Logical) (part : ℕ) (q : Logical) → length parts ≡ length ps → length (parts ++ part ∷ []) ≡ length (ps ++ q ∷ [])
+pub many-more : (parts : List ℕ) (ps : List Logical) (part : ℕ) (q : Logical) → length parts ≡ length ps → length (parts ++ part ∷ []) ≡ length (ps ++ q ∷ [])
 many-more parts ps part q h =
     let a = length-append parts (part ∷ []) in
     let b = length-append ps (q ∷ []) in
