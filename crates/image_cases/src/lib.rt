@@ -7,3 +7,5 @@ mod layouts;
 mod new_images;
 #[cfg(test)]
 mod openings;
+#[cfg(test)]
+mod readings;
