@@ -1,24 +1,23 @@
 -- Filling a partition with four bytes, over and over.
-use Rattle.std.proofs.Common.{◌≡◌, ◌∙◌, refl, ap, sym, subst, ℕ, ◌+◌, ◌-◌, ◌<◌, ◌≤◌, List, [], ◌∷◌, ◌++◌, length, take, drop, Option, Some, None, append-nil, arith}
+use Rattle.std.proofs.Common.{◌≡◌, ◌∙◌, refl, ap, sym, subst, ℕ, ◌+◌, ◌-◌, ◌<◌, ◌≤◌, List, [], ◌++◌, length, take, drop, Option, Some, None, append-nil, ◌⊎◌, inl, inr, arith}
 use Rattle.std.specs.Prelude.{◌%◌}
-use Rattle.std.proofs.Common.{◌⊎◌, inl, inr}
 use Rattle.std.proofs.Math.Nat.{mod-mod_of_dvd}
 use Rattle.std.proofs.lemmas.Nat.Gcd.{dvd_of_mod-eq-zero}
 use Rattle.std.proofs.lemmas.Bool.{cases_lt}
-use Rattle.std.proofs.lemmas.List.{length-take-le}
+use Rattle.std.proofs.lemmas.List.{length-take-le, take_all, drop_all}
 use Rattle.std.proofs.lemmas.Slice.{take-put_mid}
 use borrow.Rule.Slice.PartMut.{put_mid}
 use Rattle.fb_frame.specs.Told.{Both}
-use Rattle.dev_disk.specs.Files.{DifferWithin, Wrote, written, Tears, IsTornAt}
+use Rattle.dev_disk.specs.Files.{DifferWithin, Wrote, written}
 use Rattle.dev_disk.proofs.Writes.{differ-written}
 use Rattle.dev_disk.proofs.TwinLemmas.{HasRange}
 use Rattle.dev_store.specs.declared.part_place.Part.{Part}
 use Rattle.dev_store.specs.declared.part_place.Part.TheVariants.{Whole, InUnits}
 use Rattle.dev_store.specs.declared.part_place.Piece.{Piece}
 use Rattle.dev_store.specs.Changes.{repeated}
-use Rattle.dev_store.specs.PartPlaces.{IsPiece, size_of, Puts, PutsSome, IsOfBlocks, EndsUnit}
+use Rattle.dev_store.specs.PartPlaces.{IsPiece, size_of, Puts, PutsSome, HasRoom, EndsUnit}
 use Rattle.dev_store.proofs.WrittenLemmas.{written-none}
-use Rattle.dev_store.proofs.SuperRepairLemmas.{widen, differ-then, differ-self, both-kept, both-then, both-map, torn-within}
+use Rattle.dev_store.proofs.SuperRepairLemmas.{widen, differ-then, differ-self, both-kept, both-then}
 use Rattle.dev_store.proofs.PartLists.{twice-written}
 use Rattle.dev_store.proofs.PartFills.{repeated_more, repeated_long, repeated_front}
 use Rattle.dev_store.proofs.PartPieces.{piece-puts, piece-left, puts-more, left-more}
@@ -29,8 +28,8 @@ pub repeat-more : (done : ℕ) (buffer pattern : List ℕ) → done % 4 ≡ 0 �
 repeat-more done buffer pattern h l n f =
     take-put_mid done (done + 4 - done) buffer pattern (done + 4) (ap (λ k. done + k) (sym n)) l
     ∙ (ap (λ xs. xs ++ pattern) f ∙ (ap (λ xs. repeated done pattern ++ xs) (sym (once pattern)) ∙ sym (repeated_more done 4 pattern h))) where
-  once : (pattern : List ℕ) → repeated 4 pattern ≡ pattern
-  once pattern = append-nil pattern
+      once : (pattern : List ℕ) → repeated 4 pattern ≡ pattern
+      once pattern = append-nil pattern
 
 -- nothing is written yet
 pub wrote-nothing : (o : Option (List ℕ)) (at : ℕ) → Wrote o o at []
@@ -69,12 +68,13 @@ pub within-nothing : (place count : ℕ) (o : Option (List ℕ)) → Both (Diffe
 within-nothing place count o = both-kept (DifferWithin place count) o o refl (λ file. differ-self place count file)
 
 -- a piece of fours of bytes, as it is all that is asked or ends with a unit
-pub piece-fours : (part : Part) (at rest count : ℕ) → IsOfBlocks part → (count < rest → EndsUnit part (at + count)) → at % 4 ≡ 0 → rest % 4 ≡ 0 → count ≤ rest → count % 4 ≡ 0
+pub piece-fours : (part : Part) (at rest count : ℕ) → HasRoom part → (count < rest → EndsUnit part (at + count)) → at % 4 ≡ 0 → rest % 4 ≡ 0 → count ≤ rest → count % 4 ≡ 0
 piece-fours part at rest count b e h k l = by part b e (cases_lt count rest) where
-  by : (part : Part) → IsOfBlocks part → (count < rest → EndsUnit part (at + count)) → (count < rest) ⊎ (rest ≤ count) → count % 4 ≡ 0
+  by : (part : Part) → HasRoom part → (count < rest → EndsUnit part (at + count)) → (count < rest) ⊎ (rest ≤ count) → count % 4 ≡ 0
   by part b e (inr m) = let same : count ≡ rest = omega arith in ap (λ n. n % 4) same ∙ k
   by (Whole span) b e (inl m) = absurd (e m)
   by (InUnits u) b e (inl m) =
+      let blocks = b.blocks in
       let fours : u.unit % 4 ≡ 0 = omega arith in
       let end : (at + count) % 4 ≡ 0 = sym (mod-mod_of_dvd 4 (at + count) (dvd_of_mod-eq-zero 4 fours)) ∙ ap (λ n. n % 4) (e m) in
       omega arith
@@ -98,3 +98,22 @@ fill-left part at done all piece pattern a b c f p h l r s w =
 -- all is filled
 pub fill-all : (part : Part) (at done all : ℕ) (pattern : List ℕ) (a b : Option (List ℕ)) → Puts part at (repeated done pattern) a b → done ≤ all → all ≤ done → Puts part at (repeated all pattern) a b
 fill-all part at done all pattern a b f h k = let e : done ≡ all = omega arith in subst (λ n. Puts part at (repeated n pattern) a b) e f
+
+-- The store's buffer after it was filled: it is as long as it was, and holds the four bytes over and over.
+pub record IsFilled (pattern before after : List ℕ) : Type 0 where
+  pub long : length after ≡ length before
+  pub repeats : after ≡ repeated (length after) (take 4 after)
+  pub front : take 4 after ≡ pattern
+
+pub buffer-filled : (len n : ℕ) (items new pattern : List ℕ) → len ≡ length items → n ≡ length items → length items ≡ 126976 → length pattern ≡ 4 → new ≡ repeated n pattern → length new ≡ n →
+    IsFilled pattern items (take len (new ++ drop (length new) items))
+buffer-filled len n items new pattern l e room four h k =
+    let rest : drop (length new) items ≡ [] = drop_all (length new) items (omega arith) in
+    let all : take len (new ++ drop (length new) items) ≡ new = ap (λ xs. take len (new ++ xs)) rest ∙ (ap (take len) (append-nil new) ∙ take_all len new (omega arith)) in
+    let front : take 4 new ≡ pattern = ap (take 4) h ∙ (repeated_front 4 n pattern refl (omega arith) four ∙ append-nil pattern) in
+    subst (IsFilled pattern items) (sym all)
+    (record {
+      long = k ∙ e;
+      repeats = h ∙ (ap (λ m. repeated m pattern) (sym k) ∙ ap (repeated (length new)) (sym front));
+      front = front;
+    })

@@ -1,10 +1,8 @@
 -- Finding a partition: a physical one by its place, a logical one by its units.
-use Rattle.std.proofs.Common.{◌≡◌, ◌∙◌, refl, ap, sym, subst, ℕ, ◌+◌, ◌*◌, ◌^◌, ◌≤◌, ◌<◌, Bool, true, false, List, [], ◌∷◌, ◌++◌, length, map, drop, get_or, cond}
-use Rattle.std.proofs.Common.{Option, Some, None, length-append, arith, if◌then◌else◌}
-use Rattle.std.specs.Prelude.{bytes_eq, option_map, position, find, slice_get, nat_lt}
+use Rattle.std.proofs.Common.{◌≡◌, ◌∙◌, refl, ap, sym, subst, ℕ, ◌+◌, ◌*◌, ◌≤◌, ◌<◌, Bool, true, false, List, [], ◌∷◌, ◌++◌, length, map, drop, get_or, cond}
+use Rattle.std.proofs.Common.{Option, Some, None, length-append, arith, if◌then◌else◌, ◌-◌, ◌/◌, min, add-mul, mul_comm, mul-le-mul_right, mul-div_cancel}
+use Rattle.std.specs.Prelude.{bytes_eq, option_map, position, find, slice_get, slice_index, nat_lt, ◌%◌, IsTrue}
 use Rattle.std.specs.List.{position_or_len, flat_map}
-use Rattle.std.proofs.Common.{◌-◌, ◌/◌, min, add-mul, mul_comm, mul-le-mul_right, mod-lt, mul-div_cancel}
-use Rattle.std.specs.Prelude.{◌%◌, slice_index, IsTrue}
 use Rattle.std.proofs.Math.Nat.{mul-mod_left}
 use Rattle.std.proofs.lemmas.Bool.Decides.{nat_tests}
 use Rattle.std.proofs.lemmas.List.{length-map}
@@ -30,8 +28,9 @@ use Rattle.dev_store.specs.PartWrites.{physical_place}
 use Rattle.dev_store.specs.PartPlaces.{pair_of, logical_size, HaveRoom, IsInRun}
 use Rattle.dev_store.proofs.PartPhysical.{place-within}
 use Rattle.dev_store.proofs.UnitLemmas.{left-step, bounded}
-use Rattle.dev_store.proofs.ValidSuper.{part-holds, units-few, good-units}
+use Rattle.dev_store.proofs.ValidSuper.{part-holds, units-few, good-units, good-super}
 
+-- the physical partition of a name, by what stands at a place of the list
 place-step : (start i : ℕ) (parts : List PhysicalPart) (p : PhysicalPart) (name : List ℕ) → i < length parts → p ≡ get_or parts i p →
     physical_place start (drop i parts) name ≡ (if bytes_eq p.name name then Some (start, p.size) else physical_place (start + p.size) (drop (i + 1) parts) name)
 place-step start i parts p name h e = ap (λ l. physical_place start l name) (left-step parts i p h e)
@@ -49,6 +48,7 @@ pub found-at : {X : Type 0} (p : X → Bool) (xs : List X) (i : ℕ) → Some i 
 found-at p xs i e = by (nat_lt q (length xs)) refl e where
   q : ℕ
   q = position_or_len p xs
+
   by : (b : Bool) → nat_lt q (length xs) ≡ b → Some i ≡ cond b (Some q) None → (i < length xs) × (find p xs ≡ slice_get xs i)
   by true l k = let same : i ≡ q = cc in (let m : q < length xs = grind (arith, nat_tests) in omega arith, find_at p xs ∙ ap (slice_get xs) (sym same))
   by false l k = absurd cc
@@ -57,6 +57,7 @@ pub found-none : {X : Type 0} (p : X → Bool) (xs : List X) → None ≡ positi
 found-none p xs e = by (nat_lt q (length xs)) refl e where
   q : ℕ
   q = position_or_len p xs
+
   by : (b : Bool) → nat_lt q (length xs) ≡ b → None ≡ cond b (Some q) None → find p xs ≡ None
   by true l k = absurd cc
   by false l k = let m : length xs ≤ q = grind (arith, nat_tests) in find_at p xs ∙ slice_get_past xs q m
@@ -72,11 +73,12 @@ found-units s c name o parts ps i part p text same named e a b lists =
     let f = found-at (λ (q : Partition). bytes_eq q.name name) c.partitions i (subst (λ l. Some i ≡ position (λ (q : Partition). bytes_eq q.name name) l) same (subst (λ n. Some i ≡ position (λ (q : Partition). bytes_eq q.name n) ps) named e)) in
     let entry : slice_get c.partitions i ≡ Some p = slice_get-get_or c.partitions i p f.0 ∙ ap Some (sym a) in
     let long : length parts ≡ length c.partitions = sym (length-map parts (units_owned o)) ∙ (ap length lists ∙ length-map c.partitions (units_of s c)) in
-    let own : slice_get parts i ≡ Some part = slice_get-get_or parts i part (let g = f.0 in omega arith) ∙ ap Some (sym b) in
-    (f.1 ∙ entry,
-    some-same (units_owned o part) (units_of s c p)
-    (sym (slice_get-map (units_owned o) parts i ∙ ap (option_map (units_owned o)) own)
-    ∙ (ap (λ l. slice_get l i) lists ∙ (slice_get-map (units_of s c) c.partitions i ∙ ap (option_map (units_of s c)) entry))))
+    let own : slice_get parts i ≡ Some part = slice_get-get_or parts i part (let g = f.0 in omega arith) ∙ ap Some (sym b) in (
+      f.1 ∙ entry,
+      some-same (units_owned o part) (units_of s c p)
+          (sym (slice_get-map (units_owned o) parts i ∙ ap (option_map (units_owned o)) own)
+          ∙ (ap (λ l. slice_get l i) lists ∙ (slice_get-map (units_of s c) c.partitions i ∙ ap (option_map (units_of s c)) entry))),
+    )
 
 -- what a name has is a part of what all have
 pub found-few : {X : Type 0} (p : X → Bool) (f : X → List ℕ) (xs : List X) (x : X) → find p xs ≡ Some x → length (f x) ≤ length (flat_map f xs)
@@ -93,6 +95,10 @@ size-found c name p size e k = ap Some k ∙ sym (ap (option_map (λ q. bytes_in
 pub size-none : (c : Content) (name text : List ℕ) (ps : List Partition) → ps ≡ c.partitions → text ≡ name → None ≡ position (λ q. bytes_eq q.name text) ps → (let o : Option ℕ = None in o ≡ logical_size (Some c) name)
 size-none c name text ps same named e = sym (ap (option_map (λ q. bytes_in (extents_of c q))) (found-none (λ (q : Partition). bytes_eq q.name name) c.partitions (subst (λ l. None ≡ position (λ (q : Partition). bytes_eq q.name name) l) same (subst (λ n. None ≡ position (λ (q : Partition). bytes_eq q.name n) ps) named e))))
 
+-- a unit is whole blocks
+unit-blocks : (s : SuperPart) → IsBounded s → s.unit % 4096 ≡ 0
+unit-blocks s b = let e = (good-super s b.good).blocks in grind (arith, nat_tests)
+
 -- the units of a name have room for its bytes
 pub units-room : (s : SuperPart) (c : Content) (name : List ℕ) (u : Units) (p : Partition) → IsBounded s → length (flat_map (units_of s c) c.partitions) ≤ unit_count s →
     find (λ q. bytes_eq q.name name) c.partitions ≡ Some p → units_owned u.owners.now u.part ≡ units_of s c p → u.unit ≡ s.unit → u.size ≡ bytes_in (extents_of c p) → HaveRoom u.size u
@@ -103,6 +109,7 @@ units-room s c name u p b few e units unit size =
     let k = part-holds s c p h in
     record {
       some = omega arith;
+      blocks = ap (λ n. n % 4096) unit ∙ unit-blocks s b;
       few = let t = b.tables in let r = b.room in omega arith;
       small = let m : length (units_of s c p) * s.unit ≤ unit_count s * s.unit = mul-le-mul_right s.unit (let z : length (units_of s c p) ≤ unit_count s = omega arith in z) in let i = b.inside in let x = b.size in omega arith;
       long = subst (λ z. u.size ≤ length (units_owned u.owners.now u.part) * z) (sym unit) (subst (λ us. u.size ≤ length us * s.unit) (sym units) (subst (λ z. z ≤ length (units_of s c p) * s.unit) (sym size) k));

@@ -1,15 +1,13 @@
 -- What reading or writing a piece of a partition makes of the bytes of the partition.
-use Rattle.std.proofs.Common.{◌≡◌, ◌∙◌, refl, ap, sym, subst, ℕ, ◌+◌, ◌*◌, ◌<◌, ◌≤◌, List, [], ◌∷◌, ◌++◌, find, length, take, drop, Option, Some, None, ◌-◌, length-append, length-drop, arith}
+use Rattle.std.proofs.Common.{◌≡◌, ◌∙◌, refl, ap, sym, subst, ℕ, ◌+◌, ◌*◌, ◌<◌, ◌≤◌, List, [], ◌++◌, length, take, drop, Option, Some, None, ◌-◌, length-append, length-drop, arith}
 use Rattle.std.proofs.Math.Seq.{take-add}
 use Rattle.std.proofs.lemmas.List.{length-take-le, take_all}
-use Rattle.std.specs.Prelude.{bytes_eq, slice_index}
+use Rattle.std.specs.Prelude.{slice_index}
 use Rattle.std.proofs.lemmas.Slice.{take-put_mid}
 use borrow.Rule.Slice.PartMut.{put_mid, same_len_mid}
 use Rattle.fb_frame.specs.Told.{Both}
 use Rattle.dev_disk.specs.Files.{DifferWithin, Wrote, IsRead, Tears, IsTornAt}
-use Rattle.super_meta.specs.declared.table.Partition.{Partition}
 use Rattle.super_meta.specs.Contents.{Content}
-use Rattle.unit_alloc.specs.Owning.{units_of as units_owned}
 use Rattle.dev_store.specs.declared.layout.SuperPart.{SuperPart}
 use Rattle.dev_store.specs.declared.state.State.{State}
 use Rattle.dev_store.specs.declared.part_place.Units.{Units}
@@ -19,7 +17,7 @@ use Rattle.dev_store.specs.declared.part_place.Piece.{Piece}
 use Rattle.dev_store.specs.Changes.{put_at}
 use Rattle.dev_store.specs.LayoutLines.{first_unit}
 use Rattle.dev_store.specs.Layouts.{LayoutValue, parts_end}
-use Rattle.dev_store.specs.Supers.{extents_of, bytes_in, units_of}
+use Rattle.dev_store.specs.Supers.{units_of}
 use Rattle.dev_store.specs.Held.{device_held, IsKept}
 use Rattle.dev_store.specs.StoreCalls.{part_bytes, IsRangeRead}
 use Rattle.dev_store.specs.PartWrites.{IsPartWritten, IsLeftIn}
@@ -121,10 +119,15 @@ pub left-more : (part : Part) (at n count all : ℕ) (xs : List ℕ) (a b c : Op
 left-more part at n count all xs a b c f e g h = λ layout state table name is kept.
     let p = f layout state table name is kept in
     let q = g layout state table name is (put_kept layout state table (device_held layout state table) (put_at name at xs) a b kept p) in
-    let some = q.2 in
-    (length xs + q.0, (let k = q.1 in omega arith),
-    (xs ++ some.0, length-append xs some.0 ∙ ap (λ m. length xs + m) some.1,
-    puts_then layout (device_held layout state table) name at xs some.0 a b c p (subst (λ m. IsPartWritten layout (device_held layout state table) (put_at name m some.0) b c) e some.2)))
+    let some = q.2 in (
+      length xs + q.0,
+      (let k = q.1 in omega arith),
+      (
+        xs ++ some.0,
+        length-append xs some.0 ∙ ap (λ m. length xs + m) some.1,
+        puts_then layout (device_held layout state table) name at xs some.0 a b c p (subst (λ m. IsPartWritten layout (device_held layout state table) (put_at name m some.0) b c) e some.2),
+      ),
+    )
 
 pub puts-nothing : (part : Part) (at : ℕ) (image : Option (List ℕ)) → Puts part at [] image image
 puts-nothing part at image = λ layout state table name is kept. puts_none layout state table name at image

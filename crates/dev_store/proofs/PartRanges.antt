@@ -1,13 +1,12 @@
 -- Whether a range lies in a partition, by the partition's size.
-use Rattle.std.proofs.Common.{◌≡◌, ◌∙◌, refl, ap, sym, subst, ℕ, ◌+◌, ◌*◌, Bool, true, false, not, ◌||◌, List, [], ◌∷◌, find, length, map, Option, Some, None, Ok, Err, option_map, unwrap_or, if◌then◌else◌}
+use Rattle.std.proofs.Common.{◌≡◌, ◌∙◌, refl, ap, sym, subst, ℕ, ◌+◌, Bool, true, false, not, ◌||◌, List, [], ◌∷◌, find, length, map, Option, Some, None, Ok, Err, option_map, if◌then◌else◌}
 use Rattle.std.specs.Prelude.{bytes_eq, is_some, nat_lt, IfSome}
 use Rattle.std.specs.Option.{option_or}
 use Rattle.std.specs.List.{list_any}
 use Rattle.fb_frame.specs.Causes.{Rose}
 use Rattle.dev_disk.specs.Disks.{DiskTold, open_bytes}
 use Rattle.dev_model.specs.Options.{first_passed}
-use Rattle.dev_model.specs.declared.device.Dev.{Dev}
-use Rattle.dev_model.specs.Partitions.{is_partition, bytes_of}
+use Rattle.dev_model.specs.Partitions.{is_partition}
 use Rattle.super_meta.specs.declared.table.Partition.{Partition}
 use Rattle.super_meta.specs.Contents.{Content}
 use Rattle.dev_store.specs.declared.layout.PhysicalPart.{PhysicalPart}
@@ -89,9 +88,9 @@ passed-or b n end None e h = ap (λ t. first_passed ((not t, NoPartition) ∷ (n
 passed-or b n end (Some m) e h =
     ap (λ t. first_passed ((not t, NoPartition) ∷ (nat_lt n end, TooLarge) ∷ [])) e
     ∙ (ap (λ k. first_passed ((not true, NoPartition) ∷ (nat_lt k end, TooLarge) ∷ [])) h ∙ last (nat_lt m end)) where
-  last : (t : Bool) → first_passed ((not true, NoPartition) ∷ (t, TooLarge) ∷ []) ≡ (if t then Some TooLarge else None)
-  last true = refl
-  last false = refl
+      last : (t : Bool) → first_passed ((not true, NoPartition) ∷ (t, TooLarge) ∷ []) ≡ (if t then Some TooLarge else None)
+      last true = refl
+      last false = refl
 
 pub flaw-by-size : (layout : LayoutValue) (state : State) (table : Option Content) (image : Option (List ℕ)) (name : List ℕ) (at count : ℕ) → IsKept layout state table image →
     range_flaw (device_held layout state table image) name at count ≡ size_flaw (part_size layout table name) (at + count)

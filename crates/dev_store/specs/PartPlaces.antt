@@ -55,16 +55,17 @@ abbrev pub AreUnitsIn : ℕ → Option SuperPart → Option Content → List ℕ
 AreUnitsIn begin (Some s) (Some c) name u = AreUnitsOf begin s c name u
 AreUnitsIn begin s c name u = ⊥
 
--- it is the partition of a name
+-- the part is the partition of a name
 abbrev pub IsPartOf : LayoutValue → Option Content → List ℕ → Part → Type 0
 IsPartOf layout table name (Whole span) =
     physical_place 12288 layout.physical name ≡ Some (pair_of span)
 IsPartOf layout table name (InUnits u) =
     AreUnitsIn (parts_end layout.physical) layout.super_part table name u
 
--- the units have room for so many bytes, and can be counted in 32 bits
+-- the units are whole blocks, have room for so many bytes, and can be counted in 32 bits
 pub record HaveRoom (size : ℕ) (u : Units) : Type 0 where
   pub some : 0 < u.unit
+  pub blocks : u.unit % 4096 ≡ 0
   pub few : length (units_owned u.owners.now u.part) < 2 ^ 32
   pub small : size < 2 ^ 64
   pub long : size ≤ length (units_owned u.owners.now u.part) * u.unit
@@ -73,7 +74,7 @@ abbrev pub HasRoom : Part → Type 0
 HasRoom (Whole span) = Unit {0}
 HasRoom (InUnits u) = HaveRoom u.size u
 
--- how many bytes it has
+-- how many bytes a part has
 abbrev pub size_of : Part → ℕ
 size_of (Whole span) = span.size
 size_of (InUnits u) = u.size
@@ -82,12 +83,12 @@ size_of (InUnits u) = u.size
 abbrev pub units_end : Units → ℕ
 units_end u = u.start + u.owners.now.units * u.unit
 
--- where in the image its room ends
+-- where in the image a part's room ends
 abbrev pub room_end : Part → ℕ
 room_end (Whole span) = span.start + span.size
 room_end (InUnits u) = units_end u
 
--- Its numbers fit each other.
+-- A part's numbers fit each other.
 pub record IsSafe (part : Part) : Type 0 where
   pub room : HasRoom part
   pub end : room_end part < 2 ^ 64
@@ -116,12 +117,12 @@ abbrev pub IsUnitBefore : List ℕ → ℕ → Option ℕ → Type 0
 IsUnitBefore units place None = Unit {0}
 IsUnitBefore units place (Some last) = (0 < place) × (last ≡ slice_index units (place - 1))
 
--- the same at a place of the partition, where it has units
+-- the unit before a place of a partition in bytes, where it has units and one is told
 abbrev pub IsBefore : Part → ℕ → Option ℕ → Type 0
 IsBefore (Whole span) at before = Unit {0}
 IsBefore (InUnits u) at before = IsUnitBefore (units_owned u.owners.now u.part) (at / u.unit) before
 
--- a unit of the partition ends there
+-- a unit of a part ends at this place of its bytes
 abbrev pub EndsUnit : Part → ℕ → Type 0
 EndsUnit (Whole span) at = ⊥
 EndsUnit (InUnits u) at = at % u.unit ≡ 0
@@ -143,8 +144,3 @@ abbrev pub Reads : Part → ℕ → List ℕ → Option (List ℕ) → Type 0
 Reads part at bytes image = (layout : LayoutValue) (state : State) (table : Option Content) (name : List ℕ) →
     IsPartOf layout table name part → IsKept layout state table image →
     IsRangeRead image (part_bytes name (device_held layout state table image)) at bytes
-
--- its units are whole blocks
-abbrev pub IsOfBlocks : Part → Type 0
-IsOfBlocks (Whole span) = Unit {0}
-IsOfBlocks (InUnits u) = u.unit % 4096 ≡ 0

@@ -4,7 +4,7 @@ ghost use Rattle.fb_frame.specs.Told.{Both};
 ghost use Rattle.dev_disk.specs.Files.{IsInside, Wrote, DifferWithin};
 ghost use Rattle.dev_disk.specs.Disks.{open_bytes, OpenKept};
 ghost use Rattle.dev_store.specs.Changes.{repeated};
-ghost use Rattle.dev_store.specs.PartPlaces.{IsSafe, size_of, room_end, Puts, PutsSome, IsOfBlocks};
+ghost use Rattle.dev_store.specs.PartPlaces.{IsSafe, size_of, room_end, Puts, PutsSome};
 
 use crate::part_place::Part;
 use dev_disk::disk::{Disk, DiskFault};
@@ -23,12 +23,7 @@ pub fn repeat(buffer: &mut [u8], pattern: [u8; 4])
 
 /// Writes the first four bytes of the buffer over and over, over so many of the open file from a place on.
 /// The buffer holds nothing else.
-fn fill_piece<K: Disk>(
-    disk: &mut K,
-    place: u64,
-    count: u64,
-    buffer: &[u8],
-) -> Result<(), DiskFault>
+fn fill_piece<K: Disk>(disk: &mut K, place: u64, count: u64, buffer: &[u8]) -> Result<(), DiskFault>
     requires room { 0 < length buffer.now }
     requires whole { length buffer.now % 4 ≡ 0 }
     requires repeated { buffer.now ≡ repeated (length buffer.now) (take 4 buffer.now) }
@@ -64,7 +59,6 @@ pub fn fill_pieces<K: Disk>(
     buffer: &[u8],
 ) -> Result<(), DiskFault>
     requires safe { IsSafe part.now }
-    requires blocks { IsOfBlocks part.now }
     requires room { 0 < length buffer.now }
     requires whole { length buffer.now % 4 ≡ 0 }
     requires repeated { buffer.now ≡ repeated (length buffer.now) (take 4 buffer.now) }

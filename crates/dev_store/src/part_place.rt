@@ -13,9 +13,9 @@ ghost use Rattle.dev_store.specs.SuperBounds.{IsBounded};
 ghost use Rattle.dev_store.specs.SuperReads.{IsMap};
 ghost use Rattle.dev_store.specs.Reading.{IsWithinSound, table_within};
 ghost use Rattle.dev_store.specs.PartWrites.{physical_place};
-ghost use Rattle.dev_store.specs.PartPlaces.{part_size, logical_size, size_flaw, pair_of, AreUnitsOf, IsPartOf};
-ghost use Rattle.dev_store.specs.PartPlaces.{HaveRoom, IsSafe, size_of, units_end, room_end, IsInRun};
-ghost use Rattle.dev_store.specs.PartPlaces.{IsPiece, IsUnitBefore, IsBefore, EndsUnit};
+ghost use Rattle.dev_store.specs.PartPlaces.{part_size, logical_size, size_flaw, pair_of, AreUnitsOf};
+ghost use Rattle.dev_store.specs.PartPlaces.{IsPartOf, HaveRoom, IsSafe, size_of, units_end, room_end};
+ghost use Rattle.dev_store.specs.PartPlaces.{IsInRun, IsPiece, IsUnitBefore, IsBefore, EndsUnit};
 
 use crate::errors::StoreError;
 use crate::layout::{Layout, PhysicalPart, SuperPart};
@@ -108,11 +108,7 @@ impl SuperPart {
 }
 
 /// The logical partition of a name, where there is super.
-fn find_logical<'a>(
-    layout: &Layout,
-    within: &'a Option<SuperRead>,
-    name: &Name,
-) -> Option<Part<'a>>
+fn find_logical<'a>(layout: &Layout, within: &'a Option<SuperRead>, name: &Name) -> Option<Part<'a>>
     requires laid { IsLaid layout.now }
     requires sound { IsWithinSound layout.now layout.now.super_part within.now }
     ensures size { option_map size_of result ≡ logical_size (table_within within.now) name.now }
@@ -198,7 +194,8 @@ impl Units<'_> {
         requires room { HaveRoom (at + rest) self.now }
         requires end { units_end self.now < 2 ^ 64 }
         requires some { 0 < rest }
-        requires before { IsUnitBefore (units_owned self.now.owners.now self.now.part) (at / self.now.unit) before }
+        requires before { IsUnitBefore (units_owned self.now.owners.now self.now.part)
+            (at / self.now.unit) before }
         ensures run { IsInRun self.now at result }
         ensures some { 0 < result.count }
         ensures most { result.count ≤ rest }

@@ -1,4 +1,4 @@
-use Rattle.std.proofs.Common.{◌≡◌, ◌+◌, ◌-◌, ◌<◌, ◌≤◌, take}
+use Rattle.std.proofs.Common.{◌≡◌, ◌-◌, ◌≤◌, take}
 use Rattle.std.specs.Prelude.{◌%◌}
 use Rattle.fb_frame.specs.Told.{Both}
 use Rattle.dev_disk.specs.Files.{Wrote, DifferWithin}

@@ -1,4 +1,4 @@
-use Rattle.std.proofs.Common.{◌≡◌, ◌+◌, ◌-◌, ◌≤◌, ◌∙◌, refl, take, length, arith}
+use Rattle.std.proofs.Common.{◌≡◌, ◌+◌, ◌-◌, ◌≤◌, ◌∙◌, refl, take, arith}
 use Rattle.std.specs.Prelude.{◌%◌}
 use Rattle.std.proofs.lemmas.List.{length-take-le}
 use Rattle.dev_disk.specs.Disks.{open_bytes}
@@ -21,7 +21,7 @@ loop-done-init g c = record {
 pub fill_piece-requires-clause-fours : goal.fill_piece-requires-clause-fours
 fill_piece-requires-clause-fours g c =
     let i = c.loop-done.invariant in
-    piece-fours c.args.part.now (c.args.at + c.loop-done.done) (c.args.count - c.loop-done.done) c.piece-piece.result.count c.requires.blocks c.piece-piece.ensures.whole
+    piece-fours c.args.part.now (c.args.at + c.loop-done.done) (c.args.count - c.loop-done.done) c.piece-piece.result.count c.requires.safe.room c.piece-piece.ensures.whole
     (omega (arith, c.requires.place, i.fours)) (omega (arith, c.requires.fours, i.fours, i.long)) c.piece-piece.ensures.most
 
 pub returns-in_default-clause-left : goal.returns-in_default-clause-left
@@ -38,8 +38,8 @@ loop-done-preserved g c =
     let d = g.K.Disk.told c.fill_piece.new.disk in
     let i = c.loop-done.invariant in
     let piece = c.piece-piece.result in
-    let fours : piece.count % 4 ≡ 0 = piece-fours c.args.part.now (c.args.at + c.loop-done.done) (c.args.count - c.loop-done.done) piece.count c.requires.blocks c.piece-piece.ensures.whole
-        (omega (arith, c.requires.place, i.fours)) (omega (arith, c.requires.fours, i.fours, i.long)) c.piece-piece.ensures.most in
+    let fours : piece.count % 4 ≡ 0 = piece-fours c.args.part.now (c.args.at + c.loop-done.done) (c.args.count - c.loop-done.done) piece.count c.requires.safe.room c.piece-piece.ensures.whole
+    (omega (arith, c.requires.place, i.fours)) (omega (arith, c.requires.fours, i.fours, i.long)) c.piece-piece.ensures.most in
     let all : c.loop-done.done + piece.count ≤ c.args.count = omega (arith, i.long, c.piece-piece.ensures.most) in
     record {
       long = all;

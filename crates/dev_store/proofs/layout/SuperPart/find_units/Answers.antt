@@ -1,6 +1,6 @@
-use Rattle.std.proofs.Common.{◌≡◌, ◌∙◌, ◌+◌, refl, ap, take, drop}
+use Rattle.std.proofs.Common.{◌∙◌, ◌+◌, refl, ap, take, drop}
 use Rattle.super_meta.specs.Contents.{content}
-use Rattle.dev_store.specs.Supers.{bytes_in, extents_of}
+use Rattle.dev_store.specs.Supers.{bytes_in}
 use Rattle.dev_store.proofs.PartFound.{found-units, size-found, size-none, units-room}
 use Rattle.dev_store.proofs.layout.SuperPart.find_units.Goals as goal
 

@@ -1,4 +1,4 @@
-use Rattle.std.proofs.Common.{◌≡◌, ◌/◌, refl, arith}
+use Rattle.std.proofs.Common.{refl, arith}
 use Rattle.std.specs.Prelude.{◌%◌}
 use Rattle.unit_alloc.specs.Owning.{units_of as units_owned}
 use Rattle.dev_store.proofs.PartFound.{within-run, piece-in-run, piece-ends, piece-whole, piece-inside}

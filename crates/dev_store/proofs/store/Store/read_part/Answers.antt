@@ -1,7 +1,6 @@
-use Rattle.std.proofs.Common.{◌≡◌, ◌∙◌, ◌+◌, refl, ap, subst, length, None, Ok, Err}
+use Rattle.std.proofs.Common.{◌∙◌, ◌+◌, refl, ap, subst, length, Ok, Err}
 use Rattle.dev_store.specs.declared.errors.StoreError.TheVariants.{Disk}
 use Rattle.dev_store.specs.Changes.{range_flaw}
-use Rattle.dev_store.specs.Held.{device_held}
 use Rattle.dev_store.specs.Reading.{held_by, table_within}
 use Rattle.dev_store.specs.StoreCalls.{Decided}
 use Rattle.dev_store.specs.PartPlaces.{part_size, size_flaw}
