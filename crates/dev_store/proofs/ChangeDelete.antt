@@ -33,10 +33,10 @@ use Rattle.dev_store.specs.TableChanges.{IsFitted, LiesIn, IsStoreSuper}
 abbrev pub without : {X : Type 0} → ℕ → List X → List X
 without i xs = take i xs ++ drop (i + 1) xs
 
-without-first : {X : Type 0} (x : X) (xs : List X) → without 0 (x ∷ xs) ≡ xs
+pub without-first : {X : Type 0} (x : X) (xs : List X) → without 0 (x ∷ xs) ≡ xs
 without-first x xs = let e : 0 + 1 ≡ suc 0 = omega arith in ap (λ n. drop n (x ∷ xs)) e
 
-without-later : {X : Type 0} (i : ℕ) (x : X) (xs : List X) → without (1 + i) (x ∷ xs) ≡ x ∷ without i xs
+pub without-later : {X : Type 0} (i : ℕ) (x : X) (xs : List X) → without (1 + i) (x ∷ xs) ≡ x ∷ without i xs
 without-later i x xs =
     let e : 1 + i ≡ suc i = omega arith in
     let n : suc i + 1 ≡ suc (i + 1) = omega arith in
@@ -50,7 +50,7 @@ abbrev pub others-than : List ℕ → List Logical → List Logical
 others-than name ps = filter (λ p. not (bytes_eq p.name name)) ps
 
 -- where the name isn't there, all are left
-none-filtered : (name : List ℕ) (ps : List Logical) → not (among name (map (λ p. p.name) ps)) ≡ true → others-than name ps ≡ ps
+pub none-filtered : (name : List ℕ) (ps : List Logical) → not (among name (map (λ p. p.name) ps)) ≡ true → others-than name ps ≡ ps
 none-filtered name [] h = refl
 none-filtered name (p ∷ ps) h =
     let n = not-or (bytes_eq p.name name) (among name (map (λ q. q.name) ps)) h in
