@@ -1,8 +1,8 @@
 -- The next table, in which the partition at a place is replaced: which table of a device it is.
 use Rattle.std.proofs.Common.{◌≡◌, ℕ, zero, suc, ◌+◌, ◌-◌, ◌<◌, ◌≤◌, Bool, true, false, List, [], ◌∷◌, ◌++◌, length, get_or, take, drop, map, not, cond, min, Some, None, refl, sym, ap, subst, ◌∙◌, arith, length-append, drop_of_length-le}
-use Rattle.std.specs.Prelude.{◌&&◌, ◌||◌, if◌then◌else◌, Option, option_to_list, nat_le, bytes_eq, codes, replicate}
-use Rattle.std.specs.List.{list_all, list_any, position_or_len}
-use Rattle.std.proofs.lemmas.List.{take_all, length-take, length-drop, length-replicate}
+use Rattle.std.specs.Prelude.{◌||◌, if◌then◌else◌, Option, option_to_list, nat_lt, nat_le, bytes_eq, unwrap_or, codes, replicate}
+use Rattle.std.specs.List.{list_all, list_any, position, position_or_len}
+use Rattle.std.proofs.lemmas.List.{take_all, length-take, length-drop, length-map, length-replicate}
 use Rattle.std.proofs.lemmas.List.Sums.{sum_by-cons}
 use Rattle.std.proofs.lemmas.Bool.Decides.{nat_tests}
 use Rattle.std.proofs.lemmas.Slice.Eq.{bytes_eq-Decides}
@@ -30,7 +30,7 @@ use Rattle.dev_store.specs.declared.table_build.Planned.{Planned}
 use Rattle.dev_store.specs.Runs.{group_place, as_group, table_for}
 use Rattle.dev_store.specs.LayoutLines.{unit_count}
 use Rattle.dev_store.specs.TableChanges.{AreFitted}
-use Rattle.dev_store.specs.Building.{bare_table, with_groups, headed, built, units_planned, planned_for, planned_as, planned_all, planned_range, replaced}
+use Rattle.dev_store.specs.Building.{bare_table, with_groups, headed, built, units_planned, planned_for, planned_as, planned_all, planned_range, replaced, longer}
 use Rattle.dev_store.proofs.ChangeNamed.{at-name, not-or}
 use Rattle.dev_store.proofs.ChangeHeld.{IsHeadOf}
 use Rattle.dev_store.proofs.ChangeDelete.{without, without-first, without-later, others-than, none-filtered}
@@ -135,10 +135,6 @@ deleted-plan dev name parts v h there =
     ∙ ap (λ ps. planned_for dev.groups ps (without place parts)) (sym (others-without name dev.logical (logical-distinct dev v) there))
 
 -- ---- one partition of another length
-
--- a plan with another length
-abbrev pub longer : ℕ → Planned → Planned
-longer bytes p = record p { bytes = bytes }
 
 replaced-first : (q : Option Planned) (x : Planned) (xs : List Planned) → replaced 0 q (x ∷ xs) ≡ option_to_list q ++ xs
 replaced-first q x xs = let e : 0 + 1 ≡ suc 0 = omega arith in ap (λ n. option_to_list q ++ drop n (x ∷ xs)) e
@@ -274,3 +270,16 @@ plan-units s owning dev parts v u n h =
     let f = le-of (units_sized dev.unit (sizes_of dev.logical)) dev.units v.units_fit in
     let e = ap (λ x. units_sized x (sizes_of dev.logical)) u in
     omega arith
+
+-- ---- the place of a group
+
+-- the place of a name is the same where only the limits are left
+pub place-limited : (name : List ℕ) (groups : List Group) → position_or_len (λ g. bytes_eq g.name name) (map limited groups) ≡ position_or_len (λ g. bytes_eq g.name name) groups
+place-limited name [] = refl
+place-limited name (g ∷ groups) = ap (λ n. cond (not (bytes_eq g.name name)) (1 + n) 0) (place-limited name groups)
+
+pub placed-limited : (name : List ℕ) (groups : List Group) → unwrap_or (position (λ g. bytes_eq g.name name) groups) 0 ≡ group_place (map limited groups) name
+placed-limited name groups =
+    let l = length-map groups limited in
+    let p = place-limited name groups in
+    (λ i. unwrap_or (cond (nat_lt (sym p i) (sym l i)) (Some (sym p i)) None) 0)

@@ -100,6 +100,10 @@ planned_range c parts from to = take (to - from) (drop from (planned_all c c.par
 abbrev pub headed : SuperPart → Content → Content
 headed s c = with_groups (bare_table s c.minor c.flags) c.groups
 
+-- the same with another length
+abbrev pub longer : ℕ → Planned → Planned
+longer bytes p = record p { bytes = bytes }
+
 -- these with the one at a place replaced, by none or by one; past the end one is appended
 abbrev pub replaced : ℕ → Option Planned → List Planned → List Planned
 replaced place planned all = take place all ++ (option_to_list planned ++ drop (place + 1) all)

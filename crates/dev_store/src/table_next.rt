@@ -1,16 +1,70 @@
 //! The whole next table: the one that there is, with the partition at a place replaced.
-ghost use Rattle.std.specs.Prelude.{◌≡◌, ◌+◌, ◌<◌, ◌≤◌, length, nat_lt, option_to_list, IfSome, IsTrue};
-ghost use Rattle.std.specs.List.{list_all};
-ghost use Rattle.super_meta.specs.Contents.{content};
+ghost use Rattle.std.specs.Prelude.{◌≡◌, ◌+◌, ◌<◌, ◌≤◌, length, map, nat_lt, codes, option_to_list};
+ghost use Rattle.std.specs.Prelude.{bytes_eq, IfSome, IsTrue};
+ghost use Rattle.std.specs.List.{list_all, position};
+ghost use Rattle.super_meta.specs.Contents.{Content, content};
+ghost use Rattle.super_meta.specs.Held.{limited};
 ghost use Rattle.dev_store.specs.LayoutLines.{unit_count};
 ghost use Rattle.dev_store.specs.SuperBounds.{IsBounded};
 ghost use Rattle.dev_store.specs.SuperReads.{HasRoom};
-ghost use Rattle.dev_store.specs.Building.{headed, built, units_planned, planned_all, replaced, is_short};
+ghost use Rattle.dev_store.specs.Runs.{group_place};
+ghost use Rattle.dev_store.specs.Building.{headed, built, units_planned, planned_as, planned_all, replaced};
+ghost use Rattle.dev_store.specs.Building.{longer, is_short};
 
 use crate::layout::SuperPart;
 use crate::table_build::Planned;
-use super_meta::table::Table;
+use fb_frame::name::Name;
+use super_meta::table::{Group, Partition, Table};
 use unit_alloc::Owners;
+
+/// The place of the group of a name, where there is one.
+fn place_of(groups: &[Group], name: &[u8]) -> Option<usize>
+    ensures { result ≡ position (λ g. bytes_eq g.name name.now) groups.now }
+{
+    groups.iter().position(|group| group.name.bytes() == name)
+}
+
+/// The place of the group of a name, 0 where there is none.
+pub(crate) fn group_place(groups: &[Group], name: &[u8]) -> u32
+    requires { length groups.now ≤ 64 }
+    ensures { result ≡ group_place (map limited groups.now) name.now }
+{
+    place_of(groups, name).unwrap_or(0) as u32
+}
+
+/// A partition of a table as it is, but for its length in bytes, with its part of the map of units.
+pub(crate) fn resized_as(partition: &Partition, part: u32, bytes: u64) -> Planned
+    ensures { (c : Content) → result ≡ longer bytes (planned_as c partition.now part) }
+{
+    Planned {
+        name: partition.name,
+        attributes: partition.attributes,
+        group: partition.group,
+        bytes,
+        part,
+    }
+}
+
+/// A new partition in the group `default`, one of these, with its length in bytes and its part of the map
+/// of units.
+pub(crate) fn created_as(groups: &[Group], name: Name, bytes: u64, part: u32) -> Planned
+    requires { length groups.now ≤ 64 }
+    ensures { result ≡ record {
+      name = name;
+      attributes = 0;
+      group = group_place (map limited groups.now) (codes "default");
+      bytes = bytes;
+      part = part;
+    } }
+{
+    Planned {
+        name,
+        attributes: 0,
+        group: group_place(groups, b"default"),
+        bytes,
+        part,
+    }
+}
 
 impl SuperPart {
     /// Begins the next table with the version and the groups of a table.
