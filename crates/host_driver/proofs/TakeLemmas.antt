@@ -73,7 +73,7 @@ told-off R (Some (Joined w)) None r = absurd r
 told-off R (Some (Joined w)) (Some (Joined u)) r = absurd r
 told-off R (Some (Joined w)) (Some (Apart dev)) r = r
 
-with-off : (P : Wire → Type 0) (R S : Wire → Dev → Type 0) → ((w : Wire) (dev : Dev) → P w → R w dev → S w dev) → (a b : Option Peer) → OfLink P a → OffLink R a b → OffLink S a b
+pub with-off : (P : Wire → Type 0) (R S : Wire → Dev → Type 0) → ((w : Wire) (dev : Dev) → P w → R w dev → S w dev) → (a b : Option Peer) → OfLink P a → OffLink R a b → OffLink S a b
 with-off P R S f None None p r = tt
 with-off P R S f None (Some q) p r = absurd r
 with-off P R S f (Some (Apart dev)) b p r = absurd r
@@ -153,7 +153,7 @@ heard-again a b rs h f = heard-more a b rs [] h (subst (Appended a b) (sym (appe
 wire-is : (c : CommandValue) (p : List ℕ) → spelling c ≡ Some p → frame p ≡ command_wire c
 wire-is c p e = ap (λ o. frame (unwrap_or o [])) (sym e)
 
-logged : (c : CommandValue) (a b : Option (List ℕ)) (p : List ℕ) → spelling c ≡ Some p → Appended a b (frame p) → LogGrew a b (λ bytes. bytes ≡ command_wire c)
+pub logged : (c : CommandValue) (a b : Option (List ℕ)) (p : List ℕ) → spelling c ≡ Some p → Appended a b (frame p) → LogGrew a b (λ bytes. bytes ≡ command_wire c)
 logged c None None p e f = tt
 logged c None (Some b) p e f = f
 logged c (Some a) None p e f = f
@@ -285,7 +285,7 @@ unstuck s a b (link.BadLength n) = tt
 unstuck s a b (link.BadReply reply) = tt
 unstuck s a b link.TooManyInfos = tt
 
-some-of : {X : Type 0} (o : Option X) → is_some o ≡ true → (x : X) × (o ≡ Some x)
+pub some-of : {X : Type 0} (o : Option X) → is_some o ≡ true → (x : X) × (o ≡ Some x)
 some-of None e = absurd cc
 some-of (Some x) e = (x, refl)
 

@@ -11,3 +11,4 @@ pub mod Logs
 pub mod PutPieces
 pub mod Stepping
 pub mod Excluded
+pub mod Asking

@@ -5,6 +5,7 @@ ghost use Rattle.host_driver.specs.Commands.{Decisions};
 ghost use Rattle.host_driver.specs.Completing.{Completes, RefusesExactly};
 ghost use Rattle.host_driver.specs.Excluded.{Excluded};
 
+mod ask;
 pub mod before;
 pub mod drive;
 mod lines;
