@@ -70,7 +70,7 @@ differs-length (c ∷ cells) (o ∷ old) [] e = absurd e
 differs-length (Byte b ∷ cells) (o ∷ old) (n ∷ new) e = ap suc (differs-length cells old new e)
 differs-length (Skip ∷ cells) (o ∷ old) (n ∷ new) e = ap suc (differs-length cells old new e.1)
 
-under-over : (cells : List Cell) (o : Option (List ℕ)) (bytes : List ℕ) → IfSome o (λ old. DiffersUnder cells old bytes) → IfSome o (λ old. length bytes ≡ length old)
+pub under-over : (cells : List Cell) (o : Option (List ℕ)) (bytes : List ℕ) → IfSome o (λ old. DiffersUnder cells old bytes) → IfSome o (λ old. length bytes ≡ length old)
 under-over cells None bytes h = h
 under-over cells (Some old) bytes h = differs-length cells old bytes h
 
@@ -88,7 +88,7 @@ pub record DecidedBy (c : CommandValue) (s : Step) (dev : Dev) (loaded : Loaded)
 named-short : (word name p : List ℕ) → is_name name ≡ true → word ++ name ≡ p → length word ≤ 100 → length p ≤ 4096
 named-short word name p n e h = omega (arith, name_fits name n, h, ap length e, length-append word name)
 
-flash-short : (name p : List ℕ) → spelling (Flash name) ≡ Some p → length p ≤ 4096
+pub flash-short : (name p : List ℕ) → spelling (Flash name) ≡ Some p → length p ≤ 4096
 flash-short name p e =
     let o = only-inverse (is_name name) (codes "flash:" ++ name) p e in
     named-short (codes "flash:") name p o.0 o.1 (omega arith)

@@ -331,7 +331,7 @@ says-none n infos a l f d =
     of-both (λ w. n ≤ w.device.max) (λ w. (more : List Reply) × ((said_to (Download n) w).replies ≡ infos ++ more)) (λ w. infos ≡ [])
     (λ w p q. lines-load infos q.0 n l (sym (fits-replies n w p) ∙ q.1)) a f d
 
-quiet-none : (infos : List Reply) (a : Option Peer) (t u : Option (List ℕ)) → OfLink (λ w. infos ≡ []) a → Grew t u (shown_lines infos) → OfLink (λ w. Grew t u []) a
+pub quiet-none : (infos : List Reply) (a : Option Peer) (t u : Option (List ℕ)) → OfLink (λ w. infos ≡ []) a → Grew t u (shown_lines infos) → OfLink (λ w. Grew t u []) a
 quiet-none infos a t u n g = of-of (λ w. infos ≡ []) (λ w. Grew t u []) (λ w e. subst (λ i. Grew t u (shown_lines i)) e g) a n
 
 part-none : (t u : Option (List ℕ)) → GrewPart t u [] → Grew t u []
@@ -340,7 +340,7 @@ part-none None (Some u) g = absurd g
 part-none (Some t) None g = absurd g
 part-none (Some t) (Some u) g = absurd (omega (arith, g.fewer))
 
-quiet-part : (infos : List Reply) (a : Option Peer) (t u : Option (List ℕ)) → OfLink (λ w. infos ≡ []) a → GrewPart t u (shown_lines infos) → OfLink (λ w. Grew t u []) a
+pub quiet-part : (infos : List Reply) (a : Option Peer) (t u : Option (List ℕ)) → OfLink (λ w. infos ≡ []) a → GrewPart t u (shown_lines infos) → OfLink (λ w. Grew t u []) a
 quiet-part infos a t u n g = of-of (λ w. infos ≡ []) (λ w. Grew t u []) (λ w e. part-none t u (subst (λ i. GrewPart t u (shown_lines i)) e g)) a n
 
 of-untold : (P : Wire → Type 0) (a : Option Peer) → a ≡ None → OfLink P a

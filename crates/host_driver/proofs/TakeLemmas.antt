@@ -89,10 +89,10 @@ decides-at : (c : CommandValue) (s : Step) (spare : ℕ) (a : Option Peer) → I
 decides-at c s spare a k f =
     of-both (λ w. IsCommandOf c s w.device w.loaded) (IsServing spare) (Decides c s) (λ w p q. (command-decides c s w.device w.loaded p q.runs, q.runs)) a k f
 
-okay-told : (line : List ℕ) → Okay line ≡ Fail (codes "disk fault") → ⊥
+pub okay-told : (line : List ℕ) → Okay line ≡ Fail (codes "disk fault") → ⊥
 okay-told line e = cc
 
-fail-told : (x y : List ℕ) → Fail x ≡ Fail y → x ≡ y
+pub fail-told : (x y : List ℕ) → Fail x ≡ Fail y → x ≡ y
 fail-told x y e = cc
 
 -- An acknowledged step.
@@ -113,11 +113,11 @@ serving-so broke c s line p spare e b w u d (inl x) =
 serving-so broke c s line p spare e b w u d (inr x) = absurd (okay-told line x.1.told)
 
 -- Nothing is shown before a step's one reply.
-none-before : (infos : List Reply) (end one : Reply) → infos ++ end ∷ [] ≡ one ∷ [] → infos ≡ []
+pub none-before : (infos : List Reply) (end one : Reply) → infos ++ end ∷ [] ≡ one ∷ [] → infos ≡ []
 none-before [] end one e = refl
 none-before (i ∷ infos) end one e = let n = ap length e in let m = length-append infos (end ∷ []) in absurd (omega (arith, n, m))
 
-decided-one : (o : Option (List ℕ)) (change : Dev → Dev) (dev : Dev) (loaded : Loaded) (infos : List Reply) (end : Reply) → infos ++ end ∷ [] ≡ (decides o change dev loaded).replies → infos ≡ []
+pub decided-one : (o : Option (List ℕ)) (change : Dev → Dev) (dev : Dev) (loaded : Loaded) (infos : List Reply) (end : Reply) → infos ++ end ∷ [] ≡ (decides o change dev loaded).replies → infos ≡ []
 decided-one None change dev loaded infos end e = none-before infos end (Okay []) e
 decided-one (Some text) change dev loaded infos end e = none-before infos end (Fail text) e
 
@@ -150,7 +150,7 @@ heard-more (Some a) (Some b) rs x h f = (
 pub heard-again : (a b : Option (List ℕ)) (rs : List Reply) → HeardThen a [] → Appended a b (reply_frames rs) → HeardThen b []
 heard-again a b rs h f = heard-more a b rs [] h (subst (Appended a b) (sym (append-nil (reply_frames rs))) f)
 
-wire-is : (c : CommandValue) (p : List ℕ) → spelling c ≡ Some p → frame p ≡ command_wire c
+pub wire-is : (c : CommandValue) (p : List ℕ) → spelling c ≡ Some p → frame p ≡ command_wire c
 wire-is c p e = ap (λ o. frame (unwrap_or o [])) (sym e)
 
 pub logged : (c : CommandValue) (a b : Option (List ℕ)) (p : List ℕ) → spelling c ≡ Some p → Appended a b (frame p) → LogGrew a b (λ bytes. bytes ≡ command_wire c)

@@ -12,3 +12,4 @@ pub mod PutPieces
 pub mod Stepping
 pub mod Excluded
 pub mod Asking
+pub mod Puts
