@@ -133,6 +133,7 @@ left-said broke name w t f e = by (flash_refusal w.device w.loaded name) refl
   where
     said : (o : Option (List ℕ)) → flash_refusal w.device w.loaded name ≡ o → t ≡ (decides o (apply (Put name (loaded_image w.loaded))) w.device w.loaded).device
     said o r = e ∙ (ap (λ s. s.device) (flash-decides name w) ∙ ap (λ z. (decides z (apply (Put name (loaded_image w.loaded))) w.device w.loaded).device) r)
+
     by : (o : Option (List ℕ)) → flash_refusal w.device w.loaded name ≡ o → IsFlashLeft broke name (loaded_image w.loaded) w.device t
     by (Some text) r = inl (said (Some text) r)
     by None r = inr (inl (took-by name w t f r (said None r)))

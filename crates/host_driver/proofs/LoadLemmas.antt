@@ -651,7 +651,7 @@ Unloaded-link F n lines a b c fits h g r = record {
   kept = Kept-given a.port b.port c h.kept g;
 }
 
-why-later : (Files : List ℕ → Type 0) (a b c : PortTold) (e : DriveError) → Kept a b → (b.peer ≡ None → a.peer ≡ None) → WhyStopped NoFiles b c e → WhyStopped Files a c e
+pub why-later : (Files : List ℕ → Type 0) (a b c : PortTold) (e : DriveError) → Kept a b → (b.peer ≡ None → a.peer ≡ None) → WhyStopped NoFiles b c e → WhyStopped Files a c e
 why-later F a b c stop.Memory k n w = w
 why-later F a b c (stop.Directory file) k n w = absurd w
 why-later F a b c stop.Output k n w = w
