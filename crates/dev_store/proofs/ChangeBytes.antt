@@ -1,7 +1,7 @@
 -- What zeros behind a partition's bytes leave of each partition.
-use Rattle.std.proofs.Common.{◌≡◌, ◌∙◌, refl, ap, sym, ℕ, ◌+◌, ◌*◌, ◌-◌, ◌<◌, ◌≤◌, Bool, true, false, List, [], ◌∷◌, ◌++◌, length, take, drop, replicate, arith, inl, inr, append-nil, append_assoc}
+use Rattle.std.proofs.Common.{◌≡◌, ◌≢◌, ◌∙◌, refl, ap, sym, ℕ, ◌+◌, ◌*◌, ◌-◌, ◌<◌, ◌≤◌, Bool, true, false, List, [], ◌∷◌, ◌++◌, length, take, drop, replicate, arith, inl, inr, append-nil, append_assoc}
 use Rattle.std.specs.Prelude.{◌⊎◌, nat_le, nat_lt, min}
-use Rattle.std.specs.List.{list_all}
+use Rattle.std.specs.List.{list_all, AllByRecursion}
 use Rattle.std.proofs.Math.Nat.{min-eq_left, min-eq_right}
 use Rattle.std.proofs.Math.Seq.{take-add}
 use Rattle.std.proofs.lemmas.Grind.{div_ceil_times}
@@ -16,15 +16,15 @@ use Rattle.dev_model.proofs.Valid.{and-true}
 use Rattle.unit_alloc.specs.Owning.{times_in}
 use Rattle.unit_alloc.proofs.TimesLemmas.{times_in-cons}
 use Rattle.dev_store.specs.declared.layout.SuperPart.{SuperPart}
-use Rattle.dev_store.specs.LayoutLines.{first_unit, unit_count}
+use Rattle.dev_store.specs.LayoutLines.{unit_count}
 use Rattle.dev_store.specs.Layouts.{LayoutValue, parts_end}
 use Rattle.dev_store.specs.Supers.{unit_bytes, units_bytes}
 use Rattle.dev_store.specs.Stand.{super_bytes, physical_at}
-use Rattle.dev_store.proofs.OpenLemmas.{physical-front, take-of}
+use Rattle.dev_store.proofs.OpenLemmas.{take-of}
 use Rattle.dev_store.proofs.ValidLemmas.{range-long}
 use Rattle.dev_store.proofs.ValidSuper.{units-long}
 use Rattle.dev_store.proofs.ValidUnits.{all-take}
-use Rattle.dev_store.specs.TableChanges.{IsFitted, LiesIn, IsTailChanged, IsPadded}
+use Rattle.dev_store.specs.TableChanges.{IsFitted, LiesIn}
 
 -- units that don't stand from a number on are below it
 pub all-below : (n : ℕ) (us : List ℕ) → ((u : ℕ) → n ≤ u → times_in u us ≡ 0) → list_all (λ u. nat_lt u n) us ≡ true
@@ -108,10 +108,11 @@ cut-parts size bytes = by (leb_tells size (length bytes))
 -- bytes that are cut, or padded with zeros, lie in the units that are kept and those after them
 pub padded-lies : (layout : LayoutValue) (s : SuperPart) (p : Logical) (units more : List ℕ) (count size : ℕ) (old new : List ℕ) → length (super_bytes layout s old) ≡ s.size → 0 < s.unit →
     list_all (λ u. nat_lt u (unit_count s)) units ≡ true → IsFitted s.unit p units → LiesIn s (super_bytes layout s old) p units → count ≡ units_for s.unit size →
-    IsPadded layout s (take count units ++ more) (length p.bytes) size old new →
+    take (length p.bytes) (units_bytes s (super_bytes layout s new) (take count units ++ more)) ≡ take (length p.bytes) (units_bytes s (super_bytes layout s old) (take count units ++ more)) →
+    take (size - length p.bytes) (drop (length p.bytes) (units_bytes s (super_bytes layout s new) (take count units ++ more))) ≡ zeros (size - length p.bytes) →
     LiesIn s (super_bytes layout s new) (record p { bytes = cut_or_padded size p.bytes }) (take count units ++ more)
 unfolding zeros
-padded-lies layout s p units more count size old new long pos below fit lies c padded =
+padded-lies layout s p units more count size old new long pos below fit lies c kept padded =
     let super = super_bytes layout s old in
     let len = length p.bytes in
     let m = min size len in
@@ -126,10 +127,10 @@ padded-lies layout s p units more count size old new long pos below fit lies c p
     let t : m ≤ length (take count units) * s.unit = least count (length units) (length (take count units)) m s.unit (length-take count units) a b in
     let front : take m (units_bytes s super list) ≡ take m (units_bytes s super units) =
     after-bytes s super (take count units) more m long pos (all-take (λ u. nat_lt u (unit_count s)) count units below) t ∙ front-bytes s super units count m long pos below a b in
-    let same : take m x ≡ take m (units_bytes s super list) = take-of m len x (units_bytes s super list) (omega arith) padded.tail.kept in
+    let same : take m x ≡ take m (units_bytes s super list) = take-of m len x (units_bytes s super list) (omega arith) kept in
     let own : take m (units_bytes s super units) ≡ take m p.bytes = sym (take-take m len (units_bytes s super units) (omega arith)) ∙ ap (take m) (sym lies) in
     let whole : take size x ≡ cut_or_padded size p.bytes =
-    cut-in-two size len x ∙ (λ i. (same ∙ (front ∙ (own ∙ cut-parts size p.bytes))) i ++ padded.padded i) in
+    cut-in-two size len x ∙ (λ i. (same ∙ (front ∙ (own ∙ cut-parts size p.bytes))) i ++ padded i) in
     sym (ap (λ n. take n x) (length-cut size p.bytes) ∙ whole)
   where
     least : (a b c m unit : ℕ) → c ≡ min a b → m ≤ a * unit → m ≤ b * unit → m ≤ c * unit
@@ -142,54 +143,49 @@ padded-lies layout s p units more count size old new long pos below fit lies c p
 -- the same bytes still lie in the units where others come after them
 pub kept-lies : (layout : LayoutValue) (s : SuperPart) (p : Logical) (units more : List ℕ) (old new : List ℕ) → length (super_bytes layout s old) ≡ s.size →
     length (super_bytes layout s new) ≡ s.size → 0 < s.unit → list_all (λ u. nat_lt u (unit_count s)) units ≡ true → IsFitted s.unit p units → LiesIn s (super_bytes layout s old) p units →
-    IsTailChanged layout s (units ++ more) (length p.bytes) old new → LiesIn s (super_bytes layout s new) p units
-kept-lies layout s p units more old new long long-new pos below fit lies tail =
+    take (length p.bytes) (units_bytes s (super_bytes layout s new) (units ++ more)) ≡ take (length p.bytes) (units_bytes s (super_bytes layout s old) (units ++ more)) → LiesIn s (super_bytes layout s new) p units
+kept-lies layout s p units more old new long long-new pos below fit lies kept =
     let len = length p.bytes in
     let f = div_ceil_times len s.unit pos in
     let q = ap (λ n. n * s.unit) fit.many in
     let b : len ≤ length units * s.unit = omega arith in
     lies ∙ (sym (after-bytes s (super_bytes layout s old) units more len long pos below b)
-    ∙ (sym tail.kept ∙ after-bytes s (super_bytes layout s new) units more len long-new pos below b))
-
--- a partition of other units keeps its bytes
-pub other-lies : (layout : LayoutValue) (s : SuperPart) (p : Logical) (units changed : List ℕ) (from : ℕ) (old new : List ℕ) → LiesIn s (super_bytes layout s old) p units →
-    ((u : ℕ) → times_in u changed + times_in u units ≤ 1) → IsTailChanged layout s changed from old new → LiesIn s (super_bytes layout s new) p units
-other-lies layout s p units changed from old new lies apart tail =
-    lies ∙ ap (take (length p.bytes)) (sym (units-same s (super_bytes layout s old) (super_bytes layout s new) units (λ u h. tail.others u (let a = apart u in omega arith))))
+    ∙ (sym kept ∙ after-bytes s (super_bytes layout s new) units more len long-new pos below b))
 
 -- zeros alone lie in units that are padded from their beginning on
-pub zeros-lie : (layout : LayoutValue) (s : SuperPart) (p : Logical) (units : List ℕ) (size : ℕ) (old new : List ℕ) → p.bytes ≡ replicate size 0 → IsPadded layout s units 0 size old new →
-    LiesIn s (super_bytes layout s new) p units
+pub zeros-lie : (layout : LayoutValue) (s : SuperPart) (p : Logical) (units : List ℕ) (size : ℕ) (old new : List ℕ) → p.bytes ≡ replicate size 0 →
+    take (size - 0) (drop 0 (units_bytes s (super_bytes layout s new) units)) ≡ zeros (size - 0) → LiesIn s (super_bytes layout s new) p units
 unfolding zeros
 zeros-lie layout s p units size old new e padded =
     let x = units_bytes s (super_bytes layout s new) units in
     let n : length p.bytes ≡ size = ap length e ∙ length-replicate size 0 in
     let z : size - 0 ≡ size = omega arith in
-    e ∙ (sym (ap (λ k. replicate k 0) z) ∙ (sym padded.padded ∙ ap (λ k. take k x) (z ∙ sym n)))
+    e ∙ (sym (ap (λ k. replicate k 0) z) ∙ (sym padded ∙ ap (λ k. take k x) (z ∙ sym n)))
 
--- the physical partitions are as they were
-pub physical-same : (layout : LayoutValue) (s : SuperPart) (units : List ℕ) (from : ℕ) (old new : List ℕ) → IsTailChanged layout s units from old new →
-    physical_at 12288 layout.physical new ≡ physical_at 12288 layout.physical old
-physical-same layout s units from old new tail =
-    physical-front 12288 layout.physical new old (take-of (parts_end layout.physical) (parts_end layout.physical + first_unit s) new old (omega arith) tail.front)
+-- Of a store's partitions nothing changed but bytes in these units from a place of them on: those are the units that
+-- the partition of the name is to have. The function gives each other one's units.
+pub record IsTouched (layout : LayoutValue) (s : SuperPart) (f : List ℕ → List ℕ) (ps : List Logical) (name units : List ℕ) (from : ℕ) (old new : List ℕ) : Type 0 where
+  pub same_length : length new ≡ length old
+  pub physical : physical_at 12288 layout.physical new ≡ physical_at 12288 layout.physical old
+  pub others : AllByRecursion (λ p. p.name ≢ name → LiesIn s (super_bytes layout s new) p (f p.name)) ps
+  pub kept : take from (units_bytes s (super_bytes layout s new) units) ≡ take from (units_bytes s (super_bytes layout s old) units)
 
--- nothing is written where a partition doesn't grow, and what is written in turn
-pub tail-none : (layout : LayoutValue) (s : SuperPart) (units : List ℕ) (from : ℕ) (file : List ℕ) → IsTailChanged layout s units from file file
-tail-none layout s units from file = record { same_length = refl; front = refl; others = λ u h. refl; kept = refl }
+-- And up to another place these bytes are zeros.
+pub record IsFilled (layout : LayoutValue) (s : SuperPart) (f : List ℕ → List ℕ) (ps : List Logical) (name units : List ℕ) (from size : ℕ) (old new : List ℕ) : Type 0 where
+  pub touched : IsTouched layout s f ps name units from old new
+  pub padded : take (size - from) (drop from (units_bytes s (super_bytes layout s new) units)) ≡ zeros (size - from)
 
-pub tail-then : (layout : LayoutValue) (s : SuperPart) (units : List ℕ) (from : ℕ) (a b c : List ℕ) → IsTailChanged layout s units from a b → IsTailChanged layout s units from b c → IsTailChanged layout s units from a c
-tail-then layout s units from a b c h k = record {
-  same_length = k.same_length ∙ h.same_length;
-  front = k.front ∙ h.front;
-  others = λ u z. k.others u z ∙ h.others u z;
-  kept = k.kept ∙ h.kept;
-}
+all-others : (s : SuperPart) (super : List ℕ) (f : List ℕ → List ℕ) (name : List ℕ) (ps : List Logical) → AllByRecursion (λ p. LiesIn s super p (f p.name)) ps → AllByRecursion (λ p. p.name ≢ name → LiesIn s super p (f p.name)) ps
+all-others s super f name [] h = tt
+all-others s super f name (p ∷ ps) h = (λ ne. h.0, all-others s super f name ps h.1)
 
-pub padded-none : (layout : LayoutValue) (s : SuperPart) (units : List ℕ) (from size : ℕ) (file : List ℕ) → size ≤ from → IsPadded layout s units from size file file
+-- nothing is written where a partition doesn't grow
+pub filled-none : (layout : LayoutValue) (s : SuperPart) (f : List ℕ → List ℕ) (ps : List Logical) (name units : List ℕ) (from size : ℕ) (file : List ℕ) → size ≤ from →
+    AllByRecursion (λ p. LiesIn s (super_bytes layout s file) p (f p.name)) ps → IsFilled layout s f ps name units from size file file
 unfolding zeros
-padded-none layout s units from size file h =
+filled-none layout s f ps name units from size file h lies =
     let z : size - from ≡ 0 = omega arith in
     record {
-      tail = tail-none layout s units from file;
+      touched = record { same_length = refl; physical = refl; others = all-others s (super_bytes layout s file) f name ps lies; kept = refl };
       padded = ap (λ n. take n (drop from (units_bytes s (super_bytes layout s file) units))) z ∙ sym (ap (λ n. replicate n 0) z);
     }

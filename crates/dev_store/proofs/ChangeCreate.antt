@@ -1,5 +1,5 @@
 -- A new partition of zeros: the device, the map of units and the units of each name.
-use Rattle.std.proofs.Common.{◌≡◌, ◌≢◌, ◌∙◌, refl, ap, sym, subst, ℕ, zero, suc, ◌+◌, ◌<◌, ◌≤◌, Bool, true, false, List, [], ◌∷◌, ◌++◌, map, length, get_or, take, replicate, arith, Some, None, length-set, length-append, inl, inr, codes}
+use Rattle.std.proofs.Common.{◌≡◌, ◌≢◌, ◌∙◌, refl, ap, sym, subst, ℕ, zero, suc, ◌<◌, ◌≤◌, Bool, true, false, List, [], ◌∷◌, ◌++◌, map, length, get_or, take, replicate, arith, Some, None, length-set, length-append, inl, inr, codes}
 use Rattle.std.specs.Prelude.{◌⊎◌, not, ◌||◌, ◌%◌, ◌==◌, nat_lt, slice_get, bytes_eq, if◌then◌else◌}
 use Rattle.std.specs.List.{list_any, position_or_len, AllByRecursion}
 use Rattle.std.proofs.lemmas.Bool.Decides.{nat_tests}
@@ -17,7 +17,7 @@ use Rattle.dev_model.proofs.Names.{among, Mem, mem-any, distinct-join}
 use Rattle.dev_model.proofs.Valid.{and-true, or-false, not-back}
 use Rattle.dev_model.proofs.ValidTable.{map-append}
 use Rattle.dev_model.proofs.ValidSizes.{whole-round}
-use Rattle.unit_alloc.specs.Owning.{Owning, OneOwner, times_in, free_units, with_units, handed, units_of}
+use Rattle.unit_alloc.specs.Owning.{Owning, OneOwner, free_units, with_units, handed, units_of}
 use Rattle.super_meta.specs.Contents.{Content}
 use Rattle.dev_store.specs.declared.layout.SuperPart.{SuperPart}
 use Rattle.dev_store.specs.declared.state.State.{State}
@@ -25,15 +25,15 @@ use Rattle.dev_store.specs.Layouts.{LayoutValue}
 use Rattle.dev_store.specs.Held.{units_by}
 use Rattle.dev_store.specs.Stand.{super_bytes}
 use Rattle.dev_store.proofs.ChangeNamed.{by_name, at-name, by-cons, by-place, by-names, not-or, eq-is}
-use Rattle.dev_store.proofs.ChangeUnits.{AreOnce, times-named}
+use Rattle.dev_store.proofs.ChangeUnits.{AreOnce}
 use Rattle.dev_store.proofs.ChangeMaps.{once-rest, once-other}
-use Rattle.dev_store.proofs.ChangeBytes.{zeros-lie, other-lies, physical-same}
+use Rattle.dev_store.proofs.ChangeBytes.{IsTouched, IsFilled, zeros-lie}
 use Rattle.dev_store.proofs.ChangeStore.{HasUnits, device_in, store-device, store-many}
 use Rattle.dev_store.proofs.ChangeAfter.{device-after, device-before, units-after, fitted-after}
 use Rattle.dev_store.proofs.ChangeOne.{any-at}
 use Rattle.dev_store.proofs.ChangeResize.{IsWrittenFor, of-logical}
 use Rattle.dev_store.proofs.ChangeDelete.{once-cons}
-use Rattle.dev_store.specs.TableChanges.{IsFitted, LiesIn, IsTailChanged, IsPadded, IsStoreSuper}
+use Rattle.dev_store.specs.TableChanges.{IsFitted, LiesIn, IsStoreSuper}
 
 never : (b : Bool) → b ≡ true → b ≡ false → ⊥
 never b h k = cc
@@ -159,32 +159,18 @@ module _ (layout : LayoutValue) (s : SuperPart) (state : State) (c : Content) (o
       ap (λ q. by_name q parts (device_in layout state c old).logical other) now-is
       ∙ named-apart o parts (device_in layout state c old).logical part (take count (free_units o)) other (store-many layout s state c o parts old h) free
 
-  -- the new partition's units are none of the others'
-  new-apart : (q : Logical) → q.name ≡ name → (other : List ℕ) → other ≢ name → (u : ℕ) → times_in u (take count (free_units o)) + times_in u (by_name o parts (device_in layout state c old).logical other) ≤ 1
-  new-apart q is other ne u =
-      let dev = device_in layout state c old in
-      let many = store-many layout s state c o parts old h in
-      let n = subst (λ x. other ≢ x) (sym is) ne in
-      let t = times-named u now (parts ++ part ∷ []) (dev.logical ++ q ∷ []) q.name other (many-more parts dev.logical part q many) (once-push parts part h.mapped.apart (not-at parts part free)) n in
-      let a = ap (times_in u) (added-own now parts dev.logical part q many (subst (λ x. not (among x (map (λ p. p.name) dev.logical)) ≡ true) (sym is) fresh) ∙ now-own) in
-      let b = ap (times_in u) (added-other now parts dev.logical part q other many n ∙ now-other other) in
-      let w = one.once u in
-      omega arith
-
   -- the device before, while bytes of the new units change
-  pub create-before : IsTailChanged layout s (units_of now part) 0 old new → device_in layout state c new ≡ device_in layout state c old
+  pub create-before : IsTouched layout s (by_name o parts (device_in layout state c old).logical) (device_in layout state c old).logical name (units_of now part) 0 old new →
+      device_in layout state c new ≡ device_in layout state c old
   create-before tail =
       let dev = device_in layout state c old in
-      let d = store-device layout s state c o parts old h in
       let f = by_name o parts dev.logical in
-      device-before layout s state c o parts old new h (physical-same layout s (units_of now part) 0 old new tail)
-      (each-fresh (λ p. LiesIn s (super_bytes layout s old) p (f p.name)) (λ p. LiesIn s (super_bytes layout s new) p (f p.name)) name dev.logical fresh
-      (λ p ne lies. other-lies layout s p (f p.name) (units_of now part) 0 old new lies
-      (λ u. subst (λ l. times_in u l + times_in u (f p.name) ≤ 1) (sym now-own) (new-apart (new_logical name 0) refl p.name ne u)) tail) d.units.lies)
+      device-before layout s state c o parts old new h tail.physical
+      (each-fresh (λ p. p.name ≢ name → LiesIn s (super_bytes layout s new) p (f p.name)) (λ p. LiesIn s (super_bytes layout s new) p (f p.name)) name dev.logical fresh (λ p ne x. x ne) tail.others)
 
   -- the new partition, over a file with zeros in its units
   pub create-after : (size : ℕ) → count ≡ units_for s.unit (round_up size) → count ≤ length (free_units o) → is_group (device_in layout state c old).groups (codes "default") ≡ true →
-      IsPadded layout s (units_of now part) 0 (round_up size) old new → IsWrittenFor layout s state now (parts ++ part ∷ []) new (created name size (device_in layout state c old))
+      IsFilled layout s (by_name o parts (device_in layout state c old).logical) (device_in layout state c old).logical name (units_of now part) 0 (round_up size) old new → IsWrittenFor layout s state now (parts ++ part ∷ []) new (created name size (device_in layout state c old))
   create-after size needs room group padded =
       let dev = device_in layout state c old in
       let d = store-device layout s state c o parts old h in
@@ -200,11 +186,9 @@ module _ (layout : LayoutValue) (s : SuperPart) (state : State) (c : Content) (o
       let units : HasUnits layout s new g next = record {
         names = names-pushed dev.logical q d.units.names fresh;
         lies = all-push (λ p. LiesIn s (super_bytes layout s new) p (g p.name)) dev.logical q
-            (each-fresh (λ p. LiesIn s (super_bytes layout s old) p (f p.name)) (λ p. LiesIn s (super_bytes layout s new) p (g p.name)) name dev.logical fresh
-            (λ p ne lies. subst (LiesIn s (super_bytes layout s new) p) (others p.name ne)
-            (other-lies layout s p (f p.name) (units_of now part) 0 old new lies
-            (λ u. subst (λ l. times_in u l + times_in u (f p.name) ≤ 1) (sym now-own) (new-apart q refl p.name ne u)) padded.tail)) d.units.lies)
-            (subst (LiesIn s (super_bytes layout s new) q) (sym own) (zeros-lie layout s q (units_of now part) (round_up size) old new refl padded));
+            (each-fresh (λ p. p.name ≢ name → LiesIn s (super_bytes layout s new) p (f p.name)) (λ p. LiesIn s (super_bytes layout s new) p (g p.name)) name dev.logical fresh
+            (λ p ne x. subst (LiesIn s (super_bytes layout s new) p) (others p.name ne) (x ne)) padded.touched.others)
+            (subst (LiesIn s (super_bytes layout s new) q) (sym own) (zeros-lie layout s q (units_of now part) (round_up size) old new refl padded.padded));
         fits = all-push (λ p. IsFitted s.unit p (g p.name)) dev.logical q
             (each-fresh (λ p. IsFitted s.unit p (f p.name)) (λ p. IsFitted s.unit p (g p.name)) name dev.logical fresh (λ p ne x. subst (IsFitted s.unit p) (others p.name ne) x) d.units.fits)
             (record {
@@ -216,7 +200,7 @@ module _ (layout : LayoutValue) (s : SuperPart) (state : State) (c : Content) (o
       let lists : map (λ p. g p.name) next.logical ≡ map (units_of now) rest = by-names now rest next.logical (many-more parts dev.logical part q many) units.names in
       record {
         device = device-after layout s state new g next (map (units_of now) rest) h.part d.bounded
-            (of-logical layout state old new dev next.logical d.same (physical-same layout s (units_of now part) 0 old new padded.tail)) units lists;
+            (of-logical layout state old new dev next.logical d.same padded.touched.physical) units lists;
         mapped = record {
           units = ap (λ (q : Owning). q.units) now-is ∙ h.mapped.units;
           many = ap (λ (q : Owning). length q.parts) now-is ∙ (length-set o.parts part (take count (free_units o)) ∙ h.mapped.many);

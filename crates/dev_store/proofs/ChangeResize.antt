@@ -1,10 +1,11 @@
 -- A partition of another length: the device, the map of units and the units of each name.
-use Rattle.std.proofs.Common.{◌≡◌, ◌≢◌, ◌∙◌, refl, ap, sym, subst, ℕ, zero, suc, ◌+◌, ◌-◌, ◌<◌, ◌≤◌, Bool, true, false, List, [], ◌∷◌, ◌++◌, map, length, take, arith, Some, length-append, length-set}
+use Rattle.std.proofs.Common.{◌≡◌, ◌≢◌, ◌∙◌, refl, ap, sym, subst, ℕ, zero, suc, ◌+◌, ◌-◌, ◌<◌, ◌≤◌, Bool, true, false, List, [], ◌∷◌, ◌++◌, map, length, take, drop, arith, Some, length-append, length-set}
 use Rattle.std.specs.Prelude.{not, find, ◌%◌, nat_lt, slice_get, bytes_eq, if◌then◌else◌}
 use Rattle.std.specs.List.{list_all, position_or_len, AllByRecursion}
 use Rattle.std.proofs.lemmas.List.{take_all, length-take}
 use Rattle.std.proofs.lemmas.Bool.Decides.{nat_tests}
 use Rattle.std.proofs.lemmas.Slice.Eq.{bytes_eq-Decides}
+use Rattle.fb_frame.specs.Bytes.{zeros}
 use Rattle.dev_model.specs.declared.device.Dev.{Dev}
 use Rattle.dev_model.specs.declared.device.Logical.{Logical}
 use Rattle.dev_model.specs.Partitions.{logical_changed}
@@ -17,23 +18,24 @@ use Rattle.dev_model.proofs.Names.{among}
 use Rattle.dev_model.specs.Tables.{is_group}
 use Rattle.dev_model.proofs.Valid.{map-same, all-same, both}
 use Rattle.dev_model.proofs.ValidSizes.{length-cut, whole-round}
-use Rattle.unit_alloc.specs.Owning.{Owning, OneOwner, times_in, free_units, units_of}
+use Rattle.unit_alloc.specs.Owning.{Owning, OneOwner, free_units, units_of}
 use Rattle.super_meta.specs.Contents.{Content}
 use Rattle.dev_store.specs.declared.layout.SuperPart.{SuperPart}
 use Rattle.dev_store.specs.declared.state.State.{State}
 use Rattle.dev_store.specs.LayoutLines.{unit_count}
 use Rattle.dev_store.specs.Layouts.{LayoutValue}
 use Rattle.dev_store.specs.Runs.{table_for}
+use Rattle.dev_store.specs.Supers.{units_bytes}
 use Rattle.dev_store.specs.SuperBounds.{IsMapOf}
 use Rattle.dev_store.specs.Held.{units_by}
 use Rattle.dev_store.specs.Stand.{super_bytes, physical_at, device_with}
 use Rattle.dev_store.proofs.ChangeHeld.{IsDeviceOf, value_in}
 use Rattle.dev_store.proofs.ChangeNamed.{by_name, at-name, by-place, by-names, not-or, eq-is}
-use Rattle.dev_store.proofs.ChangeBytes.{super-long, padded-lies, kept-lies, other-lies, physical-same}
+use Rattle.dev_store.proofs.ChangeBytes.{IsTouched, IsFilled, super-long, padded-lies, kept-lies}
 use Rattle.dev_store.proofs.ChangeStore.{HasUnits, device_in, file-long, store-device, store-many}
 use Rattle.dev_store.proofs.ChangeAfter.{device-after, device-before, units-after, fitted-after}
 use Rattle.dev_store.proofs.ChangeOne.{one-changed, below-of, empty-one}
-use Rattle.dev_store.specs.TableChanges.{IsFitted, AreFitted, LiesIn, IsTailChanged, IsPadded, IsStoreSuper, regrown}
+use Rattle.dev_store.specs.TableChanges.{IsFitted, AreFitted, LiesIn, IsStoreSuper, regrown}
 
 -- the partition of the name is this long
 abbrev pub IsLong : List ℕ → ℕ → List Logical → Type 0
@@ -41,13 +43,9 @@ IsLong name len ps = AllByRecursion (λ p. p.name ≡ name → length p.bytes �
 
 module _ (layout : LayoutValue) (s : SuperPart) (old new : List ℕ) (f g : List ℕ → List ℕ) (name more : List ℕ) (len count size : ℕ) (long : length (super_bytes layout s old) ≡ s.size) (pos : 0 < s.unit)
     (below : list_all (λ u. nat_lt u (unit_count s)) (f name) ≡ true) (many : count ≡ units_for s.unit size) (own : g name ≡ take count (f name) ++ more)
-    (others : (other : List ℕ) → other ≢ name → g other ≡ f other) (apart : (other : List ℕ) → other ≢ name → (u : ℕ) → times_in u (g name) + times_in u (g other) ≤ 1)
-    (padded : IsPadded layout s (g name) len size old new) where
-
-  -- a partition of another name lies where it did
-  other-after : (p : Logical) → p.name ≢ name → LiesIn s (super_bytes layout s old) p (f p.name) → LiesIn s (super_bytes layout s new) p (g p.name)
-  other-after p ne lies =
-      other-lies layout s p (g p.name) (g name) len old new (subst (LiesIn s (super_bytes layout s old) p) (sym (others p.name ne)) lies) (apart p.name ne) padded.tail
+    (others : (other : List ℕ) → other ≢ name → g other ≡ f other)
+    (kept : take len (units_bytes s (super_bytes layout s new) (g name)) ≡ take len (units_bytes s (super_bytes layout s old) (g name)))
+    (padded : take (size - len) (drop len (units_bytes s (super_bytes layout s new) (g name))) ≡ zeros (size - len)) where
 
   -- the one of the name lies in its new units
   own-after : (p : Logical) → p.name ≡ name → length p.bytes ≡ len → IsFitted s.unit p (f p.name) → LiesIn s (super_bytes layout s old) p (f p.name) →
@@ -56,20 +54,27 @@ module _ (layout : LayoutValue) (s : SuperPart) (old new : List ℕ) (f g : List
       let is : g p.name ≡ take count (f name) ++ more = ap g e ∙ own in
       subst (LiesIn s (super_bytes layout s new) (record p { bytes = cut_or_padded size p.bytes })) (sym is)
       (padded-lies layout s p (f name) more count size old new long pos below (subst (λ x. IsFitted s.unit p (f x)) e fit) (subst (λ x. LiesIn s (super_bytes layout s old) p (f x)) e lies) many
-      (subst (λ k. IsPadded layout s (take count (f name) ++ more) k size old new) (sym n) (subst (λ l. IsPadded layout s l len size old new) own padded)))
+      (subst (λ l. take (length p.bytes) (units_bytes s (super_bytes layout s new) l) ≡ take (length p.bytes) (units_bytes s (super_bytes layout s old) l)) own
+      (subst (λ k. take k (units_bytes s (super_bytes layout s new) (g name)) ≡ take k (units_bytes s (super_bytes layout s old) (g name))) (sym n) kept))
+      (subst (λ l. take (size - length p.bytes) (drop (length p.bytes) (units_bytes s (super_bytes layout s new) l)) ≡ zeros (size - length p.bytes)) own
+      (subst (λ k. take (size - k) (drop k (units_bytes s (super_bytes layout s new) (g name))) ≡ zeros (size - k)) (sym n) padded)))
 
-  part-after : (p : Logical) → (p.name ≡ name → length p.bytes ≡ len) → IsFitted s.unit p (f p.name) → LiesIn s (super_bytes layout s old) p (f p.name) → (b : Bool) → bytes_eq p.name name ≡ b →
+  part-after : (p : Logical) → (p.name ≡ name → length p.bytes ≡ len) → IsFitted s.unit p (f p.name) → LiesIn s (super_bytes layout s old) p (f p.name) →
+      (p.name ≢ name → LiesIn s (super_bytes layout s new) p (f p.name)) → (b : Bool) → bytes_eq p.name name ≡ b →
       LiesIn s (super_bytes layout s new) (record p { bytes = (if b then cut_or_padded size else λ bytes. bytes) p.bytes }) (g p.name)
-  part-after p n fit lies true e = let is = (bytes_eq-Decides p.name name).0 e in own-after p is (n is) fit lies
-  part-after p n fit lies false e = other-after p (λ q. never (bytes_eq p.name name) ((bytes_eq-Decides p.name name).1 q) e) lies
+  part-after p n fit lies other true e = let is = (bytes_eq-Decides p.name name).0 e in own-after p is (n is) fit lies
+  part-after p n fit lies other false e =
+      let ne : p.name ≢ name = λ q. never (bytes_eq p.name name) ((bytes_eq-Decides p.name name).1 q) e in
+      subst (LiesIn s (super_bytes layout s new) p) (sym (others p.name ne)) (other ne)
     where
       never : (b : Bool) → b ≡ true → b ≡ false → ⊥
       never b h k = cc
 
   pub parts-after : (ps : List Logical) → IsLong name len ps → AllByRecursion (λ p. IsFitted s.unit p (f p.name)) ps → AllByRecursion (λ p. LiesIn s (super_bytes layout s old) p (f p.name)) ps →
+      AllByRecursion (λ p. p.name ≢ name → LiesIn s (super_bytes layout s new) p (f p.name)) ps →
       AllByRecursion (λ p. LiesIn s (super_bytes layout s new) p (g p.name)) (map (logical_changed name (cut_or_padded size)) ps)
-  parts-after [] n fits lies = tt
-  parts-after (p ∷ ps) n fits lies = (part-after p n.0 fits.0 lies.0 (bytes_eq p.name name) refl, parts-after ps n.1 fits.1 lies.1)
+  parts-after [] n fits lies other = tt
+  parts-after (p ∷ ps) n fits lies other = (part-after p n.0 fits.0 lies.0 other.0 (bytes_eq p.name name) refl, parts-after ps n.1 fits.1 lies.1 other.1)
 
 module _ (unit : ℕ) (f g : List ℕ → List ℕ) (name : List ℕ) (count size : ℕ) (many : count ≡ units_for unit size) (whole : size % 4096 ≡ 0) (enough : length (g name) ≡ count)
     (others : (other : List ℕ) → other ≢ name → g other ≡ f other) where
@@ -92,27 +97,27 @@ module _ (unit : ℕ) (f g : List ℕ → List ℕ) (name : List ℕ) (count siz
   fits-after (p ∷ ps) fits = (fit-after p fits.0 (bytes_eq p.name name) refl, fits-after ps fits.1)
 
 module _ (layout : LayoutValue) (s : SuperPart) (old new : List ℕ) (f : List ℕ → List ℕ) (name list : List ℕ) (long : length (super_bytes layout s old) ≡ s.size)
-    (long-new : length (super_bytes layout s new) ≡ s.size) (pos : 0 < s.unit) (below : list_all (λ u. nat_lt u (unit_count s)) (f name) ≡ true)
-    (apart : (other : List ℕ) → other ≢ name → (u : ℕ) → times_in u list + times_in u (f other) ≤ 1) where
+    (long-new : length (super_bytes layout s new) ≡ s.size) (pos : 0 < s.unit) (below : list_all (λ u. nat_lt u (unit_count s)) (f name) ≡ true) (len : ℕ) (more : List ℕ) (own : list ≡ f name ++ more)
+    (kept : take len (units_bytes s (super_bytes layout s new) list) ≡ take len (units_bytes s (super_bytes layout s old) list)) where
 
   -- each partition still lies in its units, where only bytes after those of the name changed
-  part-before : (len : ℕ) (more : List ℕ) → list ≡ f name ++ more → IsTailChanged layout s list len old new → (p : Logical) → (p.name ≡ name → length p.bytes ≡ len) →
-      IsFitted s.unit p (f p.name) → LiesIn s (super_bytes layout s old) p (f p.name) → (b : Bool) → bytes_eq p.name name ≡ b → LiesIn s (super_bytes layout s new) p (f p.name)
-  part-before len more own tail p n fit lies true e =
+  part-before : (p : Logical) → (p.name ≡ name → length p.bytes ≡ len) → IsFitted s.unit p (f p.name) → LiesIn s (super_bytes layout s old) p (f p.name) →
+      (p.name ≢ name → LiesIn s (super_bytes layout s new) p (f p.name)) → (b : Bool) → bytes_eq p.name name ≡ b → LiesIn s (super_bytes layout s new) p (f p.name)
+  part-before p n fit lies other true e =
       let is = (bytes_eq-Decides p.name name).0 e in
       subst (λ x. LiesIn s (super_bytes layout s new) p (f x)) (sym is)
       (kept-lies layout s p (f name) more old new long long-new pos below (subst (λ x. IsFitted s.unit p (f x)) is fit) (subst (λ x. LiesIn s (super_bytes layout s old) p (f x)) is lies)
-      (subst (λ k. IsTailChanged layout s (f name ++ more) k old new) (sym (n is)) (subst (λ l. IsTailChanged layout s l len old new) own tail)))
-  part-before len more own tail p n fit lies false e =
-      other-lies layout s p (f p.name) list len old new lies (apart p.name (λ q. never (bytes_eq p.name name) ((bytes_eq-Decides p.name name).1 q) e)) tail
+      (subst (λ l. take (length p.bytes) (units_bytes s (super_bytes layout s new) l) ≡ take (length p.bytes) (units_bytes s (super_bytes layout s old) l)) own
+      (subst (λ k. take k (units_bytes s (super_bytes layout s new) list) ≡ take k (units_bytes s (super_bytes layout s old) list)) (sym (n is)) kept)))
+  part-before p n fit lies other false e = other (λ q. never (bytes_eq p.name name) ((bytes_eq-Decides p.name name).1 q) e)
     where
       never : (b : Bool) → b ≡ true → b ≡ false → ⊥
       never b h k = cc
 
-  pub parts-before : (len : ℕ) (more : List ℕ) → list ≡ f name ++ more → IsTailChanged layout s list len old new → (ps : List Logical) → IsLong name len ps →
-      AllByRecursion (λ p. IsFitted s.unit p (f p.name)) ps → AllByRecursion (λ p. LiesIn s (super_bytes layout s old) p (f p.name)) ps → AllByRecursion (λ p. LiesIn s (super_bytes layout s new) p (f p.name)) ps
-  parts-before len more own tail [] n fits lies = tt
-  parts-before len more own tail (p ∷ ps) n fits lies = (part-before len more own tail p n.0 fits.0 lies.0 (bytes_eq p.name name) refl, parts-before len more own tail ps n.1 fits.1 lies.1)
+  pub parts-before : (ps : List Logical) → IsLong name len ps → AllByRecursion (λ p. IsFitted s.unit p (f p.name)) ps → AllByRecursion (λ p. LiesIn s (super_bytes layout s old) p (f p.name)) ps →
+      AllByRecursion (λ p. p.name ≢ name → LiesIn s (super_bytes layout s new) p (f p.name)) ps → AllByRecursion (λ p. LiesIn s (super_bytes layout s new) p (f p.name)) ps
+  parts-before [] n fits lies other = tt
+  parts-before (p ∷ ps) n fits lies other = (part-before p n.0 fits.0 lies.0 other.0 (bytes_eq p.name name) refl, parts-before ps n.1 fits.1 lies.1 other.1)
 
 -- the bytes of the partition of a name are as many as those of the first that is found
 none-long : (name : List ℕ) (len : ℕ) (ps : List Logical) → not (among name (map (λ p. p.name) ps)) ≡ true → IsLong name len ps
@@ -176,7 +181,8 @@ part-own o parts ps name part many at = by-place o parts ps name many ∙ ap (un
 pub resize-after : (layout : LayoutValue) (s : SuperPart) (state : State) (c : Content) (o now : Owning) (parts old new name : List ℕ) (part len size : ℕ) → IsStoreSuper layout s state c o parts old →
     slice_get parts (position_or_len (at-name name) (device_in layout state c old).logical) ≡ Some part → now ≡ regrown o part (units_for s.unit (round_up size)) → OneOwner now →
     units_for s.unit (round_up size) ≤ length (units_of o part) + length (free_units o) → IsLong name len (device_in layout state c old).logical →
-    IsPadded layout s (units_of now part) len (round_up size) old new → IsWrittenFor layout s state now parts new (apply (Resize name size) (device_in layout state c old))
+    IsFilled layout s (by_name o parts (device_in layout state c old).logical) (device_in layout state c old).logical name (units_of now part) len (round_up size) old new →
+    IsWrittenFor layout s state now parts new (apply (Resize name size) (device_in layout state c old))
 resize-after layout s state c o now parts old new name part len size h at e one room n padded =
     let dev = device_in layout state c old in
     let d = store-device layout s state c o parts old h in
@@ -193,22 +199,23 @@ resize-after layout s state c o now parts old new name part len size h at e one 
     let four = d.bounded.unit in
     let pos : 0 < s.unit = omega arith in
     let g-is : g name ≡ take count (f name) ++ more = ch.own ∙ ap (λ l. take count l ++ more) (sym is) in
-    let pad : IsPadded layout s (g name) len (round_up size) old new = subst (λ l. IsPadded layout s l len (round_up size) old new) (sym (part-own now parts dev.logical name part many at)) padded in
-    let apart : (other : List ℕ) → other ≢ name → (u : ℕ) → times_in u (g name) + times_in u (g other) ≤ 1 =
-    λ other ne u. subst (λ l. times_in u l + times_in u (g other) ≤ 1) (sym ch.own) (ch.apart other ne u) in
+    let g-own : units_of now part ≡ g name = sym (part-own now parts dev.logical name part many at) in
     let next = apply (Resize name size) dev in
     let below = below-of o parts dev.logical name (unit_count s) many h.one h.mapped.units in
     let whole = eq-is (round_up size % 4096) 0 (whole-round size) in
     let enough : length (g name) ≡ count = ap length ch.own ∙ grown-many own (free_units o) count room in
     let units : HasUnits layout s new g next = record {
       names = ap are_distinct (map-same (logical_changed name (cut_or_padded (round_up size))) (λ p. p.name) (λ p. refl) dev.logical) ∙ d.units.names;
-      lies = parts-after layout s old new f g name more len count (round_up size) d.long pos below refl g-is ch.others apart pad dev.logical n d.units.fits d.units.lies;
+      lies = parts-after layout s old new f g name more len count (round_up size) d.long pos below refl g-is ch.others
+          (subst (λ l. take len (units_bytes s (super_bytes layout s new) l) ≡ take len (units_bytes s (super_bytes layout s old) l)) g-own padded.touched.kept)
+          (subst (λ l. take (round_up size - len) (drop len (units_bytes s (super_bytes layout s new) l)) ≡ zeros (round_up size - len)) g-own padded.padded)
+          dev.logical n d.units.fits d.units.lies padded.touched.others;
       fits = fits-after s.unit f g name count (round_up size) refl whole enough ch.others dev.logical d.units.fits;
       groups = all-same (logical_changed name (cut_or_padded (round_up size))) (λ p. is_group dev.groups p.group) (λ p. refl) dev.logical ∙ d.units.groups;
     } in
     let lists : map (λ p. g p.name) next.logical ≡ map (units_of now) parts =
     map-same (logical_changed name (cut_or_padded (round_up size))) (λ p. g p.name) (λ p. refl) dev.logical ∙ by-names now parts dev.logical many d.units.names in
-    let of = of-logical layout state old new dev next.logical d.same (physical-same layout s (units_of now part) len old new padded.tail) in
+    let of = of-logical layout state old new dev next.logical d.same padded.touched.physical in
     record {
       device = device-after layout s state new g next (map (units_of now) parts) h.part d.bounded of units lists;
       mapped = record {
@@ -225,7 +232,8 @@ resize-after layout s state c o now parts old new name part len size h at e one 
 -- the device before, while bytes after those of the partition change in the units that it is to have
 pub resize-before : (layout : LayoutValue) (s : SuperPart) (state : State) (c : Content) (o now : Owning) (parts old new name : List ℕ) (part len count : ℕ) → IsStoreSuper layout s state c o parts old →
     slice_get parts (position_or_len (at-name name) (device_in layout state c old).logical) ≡ Some part → now ≡ regrown o part count → OneOwner now → length (units_of o part) ≤ count →
-    IsLong name len (device_in layout state c old).logical → IsTailChanged layout s (units_of now part) len old new → device_in layout state c new ≡ device_in layout state c old
+    IsLong name len (device_in layout state c old).logical → 
+    IsTouched layout s (by_name o parts (device_in layout state c old).logical) (device_in layout state c old).logical name (units_of now part) len old new → device_in layout state c new ≡ device_in layout state c old
 resize-before layout s state c o now parts old new name part len count h at e one grows n tail =
     let dev = device_in layout state c old in
     let d = store-device layout s state c o parts old h in
@@ -242,7 +250,6 @@ resize-before layout s state c o now parts old new name part len count h at e on
     let now-is : units_of now part ≡ list = sym (part-own now parts dev.logical name part many at) ∙ ch.own in
     let keeps : list ≡ f name ++ more = ap (λ l. l ++ more) (take_all count own grows ∙ sym is) in
     let long-new : length (super_bytes layout s new) ≡ s.size = super-long layout s new (omega (arith, file-long layout s old h.part h.kept.long, tail.same_length)) in
-    device-before layout s state c o parts old new h (physical-same layout s (units_of now part) len old new tail)
-    (parts-before layout s old new f name list d.long long-new pos (below-of o parts dev.logical name (unit_count s) many h.one h.mapped.units)
-    (λ other ne u. subst (λ l. times_in u list + times_in u l ≤ 1) (ch.others other ne) (ch.apart other ne u)) len more keeps
-    (subst (λ l. IsTailChanged layout s l len old new) now-is tail) dev.logical n d.units.fits d.units.lies)
+    device-before layout s state c o parts old new h tail.physical
+    (parts-before layout s old new f name list d.long long-new pos (below-of o parts dev.logical name (unit_count s) many h.one h.mapped.units) len more keeps
+    (subst (λ l. take len (units_bytes s (super_bytes layout s new) l) ≡ take len (units_bytes s (super_bytes layout s old) l)) now-is tail.kept) dev.logical n d.units.fits d.units.lies tail.others)

@@ -1,20 +1,17 @@
 -- What the table that is written says of each partition, and which bytes a change of the table writes.
-use Rattle.std.specs.Prelude.{◌≡◌, ℕ, ◌+◌, ◌-◌, ◌%◌, List, [], ◌∷◌, ◌++◌, length, take, drop, Some}
+use Rattle.std.specs.Prelude.{◌≡◌, ℕ, ◌-◌, ◌%◌, List, [], ◌∷◌, ◌++◌, length, take, Some}
 use Rattle.dev_model.specs.declared.device.Logical.{Logical}
 use Rattle.dev_model.specs.Sizes.{units_for}
-use Rattle.fb_frame.specs.Bytes.{zeros}
-use Rattle.unit_alloc.specs.Owning.{Owning, OneOwner, times_in, free_units, with_units}
+use Rattle.unit_alloc.specs.Owning.{Owning, OneOwner, free_units, with_units}
 use Rattle.unit_alloc.specs.Owning.{units_of as owned_by}
 use Rattle.super_meta.specs.declared.table.Partition.{Partition}
 use Rattle.super_meta.specs.Contents.{Content}
 use Rattle.super_meta.specs.Held.{group_name}
 use Rattle.dev_store.specs.declared.layout.SuperPart.{SuperPart}
-use Rattle.dev_store.specs.LayoutLines.{first_unit}
-use Rattle.dev_store.specs.Layouts.{LayoutValue, parts_end}
-use Rattle.dev_store.specs.Supers.{extents_of, bytes_in, units_of, unit_bytes, units_bytes}
+use Rattle.dev_store.specs.Layouts.{LayoutValue}
+use Rattle.dev_store.specs.Supers.{extents_of, bytes_in, units_of, units_bytes}
 use Rattle.dev_store.specs.SuperBounds.{IsMapOf}
 use Rattle.dev_store.specs.declared.state.State.{State}
-use Rattle.dev_store.specs.Stand.{super_bytes}
 use Rattle.dev_store.specs.Held.{IsKept}
 
 -- an entry of a table is that of a partition with these units
@@ -52,25 +49,6 @@ abbrev pub LieIn : SuperPart → List ℕ → List Logical → List (List ℕ) �
 LieIn s super [] [] = Unit {0}
 LieIn s super (p ∷ logical) (units ∷ lists) = LiesIn s super p units × LieIn s super logical lists
 LieIn s super logical lists = ⊥
-
--- Of a file nothing changed but bytes of these units from a place of them on.
-pub record IsTailChanged (layout : LayoutValue) (s : SuperPart) (units : List ℕ) (from : ℕ)
-    (old new : List ℕ) : Type 0 where
-  pub same_length : length new ≡ length old
-  pub front : take (parts_end layout.physical + first_unit s) new
-      ≡ take (parts_end layout.physical + first_unit s) old
-  pub others : (u : ℕ) → times_in u units ≡ 0 →
-      unit_bytes s (super_bytes layout s new) u ≡ unit_bytes s (super_bytes layout s old) u
-  pub kept : take from (units_bytes s (super_bytes layout s new) units)
-      ≡ take from (units_bytes s (super_bytes layout s old) units)
-
--- The bytes of these units are zeros from a place of them on up to another one, and nothing else changed but
--- what follows these zeros.
-pub record IsPadded (layout : LayoutValue) (s : SuperPart) (units : List ℕ) (from size : ℕ)
-    (old new : List ℕ) : Type 0 where
-  pub tail : IsTailChanged layout s units from old new
-  pub padded : take (size - from) (drop from (units_bytes s (super_bytes layout s new) units))
-      ≡ zeros (size - from)
 
 -- a part has as many of its first units as are said, or all of them and the lowest free ones
 abbrev pub regrown : Owning → ℕ → ℕ → Owning
