@@ -13,3 +13,4 @@ pub mod Stepping
 pub mod Excluded
 pub mod Asking
 pub mod Puts
+pub mod Beginning

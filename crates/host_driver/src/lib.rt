@@ -7,6 +7,7 @@ ghost use Rattle.host_driver.specs.Excluded.{Excluded};
 
 mod ask;
 pub mod before;
+mod begin;
 pub mod drive;
 mod lines;
 pub mod link_out;

@@ -1,5 +1,7 @@
 ghost use Rattle.std.specs.Prelude.{IfOk, IsTrue};
 
+use crate::ask::ask;
+use crate::begin::begin;
 use crate::drive::DriveError;
 use crate::lines::{put_retry, put_step};
 use crate::log_port::LogPort;
@@ -34,7 +36,7 @@ fn erase(alloc: Global, port: &mut LogPort<'_, ScriptPort>) -> Result<&'static s
         return Ok("no name");
     };
     let mut shown = MemorySink::new(alloc, 100)?;
-    let Ok(ready) = Lost::new(port).connect() else {
+    let Ok(ready) = begin(Lost::new(port)) else {
         return Ok("not connected");
     };
     Ok(match take(ready, &Command::Erase(name), &mut shown) {
@@ -73,6 +75,51 @@ fn logs_what_is_sent(rt: HostRuntime) -> Result<(), Fail> {
         let mut port = LogPort::new(aimed(rt.alloc(), bytes)?, &mut buffer[..room]);
         assert_eq!(rt; erase(rt.alloc(), &mut port)?, came);
         assert_eq!(rt; port.sent(), sent);
+    }
+    Ok(())
+}
+
+/// What a question comes to over a port, and the lines that it shows.
+fn question(alloc: Global, port: ScriptPort) -> Result<(&'static str, String), Fail>
+    requires { IsTrue (⟦<ScriptPort as Port>⟧.told port).aimed }
+{
+    let mut shown = MemorySink::new(alloc, 10)?;
+    let Ok(ready) = begin(Lost::new(port)) else {
+        return Ok(("not connected", String::new(alloc)));
+    };
+    let came = match ask(ready, b"version", &mut shown) {
+        Ok((_, Ok(_))) => "text",
+        Ok((_, Err(_))) => "refusal",
+        Err((_, DriveError::Output)) => "output",
+        Err((_, DriveError::Ended)) => "ended",
+        Err(_) => "other",
+    };
+    Ok((
+        came,
+        String::from_str(alloc, str::from_utf8(shown.text())?)?,
+    ))
+}
+
+#[test]
+fn asks_for_a_variable(rt: HostRuntime) -> Result<(), Fail> {
+    for (bytes, came, lines) in [
+        (
+            b"FB01\0\0\0\0\0\0\0\x06INFOhi\0\0\0\0\0\0\0\x05OKAYx".as_slice(),
+            "text",
+            "info: hi\n",
+        ),
+        (b"FB01\0\0\0\0\0\0\0\x06FAILno".as_slice(), "refusal", ""),
+        (
+            b"FB01\0\0\0\0\0\0\0\x0bINFOhi, you\0\0\0\0\0\0\0\x04OKAY".as_slice(),
+            "output",
+            "info: ",
+        ),
+        (b"FB01".as_slice(), "ended", ""),
+        (b"FB00".as_slice(), "not connected", ""),
+    ] {
+        let (answer, shown) = question(rt.alloc(), aimed(rt.alloc(), bytes)?)?;
+        assert_eq!(rt; answer, came);
+        assert_eq!(rt; shown.as_str(), lines);
     }
     Ok(())
 }
