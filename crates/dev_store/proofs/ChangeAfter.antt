@@ -5,6 +5,7 @@ use Rattle.std.specs.List.{list_all, AllByRecursion}
 use Rattle.fb_frame.specs.declared.tables.TableGroup.{TableGroup}
 use Rattle.dev_model.specs.declared.device.Dev.{Dev}
 use Rattle.dev_model.specs.declared.device.Logical.{Logical}
+use Rattle.dev_model.specs.Tables.{is_group}
 use Rattle.unit_alloc.specs.Owning.{Owning}
 use Rattle.super_meta.specs.declared.table.Partition.{Partition}
 use Rattle.super_meta.specs.Contents.{Content}
@@ -21,7 +22,7 @@ use Rattle.dev_store.proofs.ChangeHeld.{IsDeviceOf, IsHeadOf, value_in, held-as}
 use Rattle.dev_store.proofs.ChangeTable.{sectored, entries-read}
 use Rattle.dev_store.proofs.ChangeNamed.{by_name, each-lie, each-fit}
 use Rattle.dev_store.proofs.ChangeStore.{HasUnits, device_in, held-is, held-logical, store-device, store-units, store-lists}
-use Rattle.dev_store.specs.TableChanges.{AreEntriesOf, AreFitted, LiesIn, IsStoreSuper}
+use Rattle.dev_store.specs.TableChanges.{IsFitted, AreEntriesOf, AreFitted, LiesIn, IsStoreSuper}
 
 groups-again : (groups : List TableGroup) → map limited (map as_group groups) ≡ groups
 groups-again [] = refl
@@ -41,11 +42,6 @@ device-after layout s state file f dev lists part b of h e =
     (entries-read s dev (map (λ p. f p.name) dev.logical) (sectored s b) (each-fit s.unit f dev.logical h.fits) h.groups)
     (each-lie s (super_bytes layout s file) f dev.logical h.lies))
 
--- each partition has as many units as it needs
-pub fitted-after : (layout : LayoutValue) (s : SuperPart) (file : List ℕ) (f : List ℕ → List ℕ) (dev : Dev) (lists : List (List ℕ)) → HasUnits layout s file f dev → map (λ p. f p.name) dev.logical ≡ lists →
-    AreFitted s.unit dev.logical lists
-fitted-after layout s file f dev lists h e = subst (AreFitted s.unit dev.logical) e (each-fit s.unit f dev.logical h.fits)
-
 -- the units of entries, in their order
 pub entries-units : (s : SuperPart) (c : Content) (entries : List Partition) (logical : List Logical) (lists : List (List ℕ)) → AreEntriesOf s c entries logical lists → map (units_of s c) entries ≡ lists
 entries-units s c [] [] [] h = refl
@@ -58,12 +54,19 @@ entries-units s c [] (p ∷ logical) lists h = absurd h
 entries-units s c (e ∷ entries) [] lists h = absurd h
 entries-units s c (e ∷ entries) (p ∷ logical) [] h = absurd h
 
--- the units of the table that is written are those of the map
-pub units-after : (layout : LayoutValue) (s : SuperPart) (file : List ℕ) (f : List ℕ → List ℕ) (dev : Dev) (lists : List (List ℕ)) → IsBounded s → HasUnits layout s file f dev →
-    map (λ p. f p.name) dev.logical ≡ lists → lists ≡ map (units_of s (table_for s dev lists)) (table_for s dev lists).partitions
-units-after layout s file f dev lists b h e =
-    sym (entries-units s (table_for s dev lists) (table_for s dev lists).partitions dev.logical lists
-    (entries-read s dev lists (sectored s b) (fitted-after layout s file f dev lists h e) h.groups))
+-- What a table that is written for a device says, over any bytes: each partition has as many units as it needs, and
+-- the entry of its own.
+pub record IsTableOf (s : SuperPart) (dev : Dev) (lists : List (List ℕ)) : Type 0 where
+  pub fitted : AreFitted s.unit dev.logical lists
+  pub entries : AreEntriesOf s (table_for s dev lists) (table_for s dev lists).partitions dev.logical lists
+  pub units : lists ≡ map (units_of s (table_for s dev lists)) (table_for s dev lists).partitions
+
+pub table-of-lists : (s : SuperPart) (f : List ℕ → List ℕ) (dev : Dev) (lists : List (List ℕ)) → IsBounded s → AllByRecursion (λ p. IsFitted s.unit p (f p.name)) dev.logical →
+    list_all (λ p. is_group dev.groups p.group) dev.logical ≡ true → map (λ p. f p.name) dev.logical ≡ lists → IsTableOf s dev lists
+table-of-lists s f dev lists b fits groups e =
+    let fitted = subst (AreFitted s.unit dev.logical) e (each-fit s.unit f dev.logical fits) in
+    let entries = entries-read s dev lists (sectored s b) fitted groups in
+    record { fitted = fitted; entries = entries; units = sym (entries-units s (table_for s dev lists) (table_for s dev lists).partitions dev.logical lists entries) }
 
 -- the entries of a table are those of the partitions that it gives
 entries-self : (s : SuperPart) (c : Content) (super : List ℕ) (es : List Partition) → length super ≡ s.size → 0 < s.unit → list_all (λ e. is_at_unit s e && lies_in_units s e) c.extents ≡ true →

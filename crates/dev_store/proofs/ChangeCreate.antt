@@ -1,7 +1,7 @@
 -- A new partition of zeros: the device, the map of units and the units of each name.
 use Rattle.std.proofs.Common.{◌≡◌, ◌≢◌, ◌∙◌, refl, ap, sym, subst, ℕ, zero, suc, ◌<◌, ◌≤◌, Bool, true, false, List, [], ◌∷◌, ◌++◌, map, length, get_or, take, replicate, arith, Some, None, length-set, length-append, inl, inr, codes}
 use Rattle.std.specs.Prelude.{◌⊎◌, not, ◌||◌, ◌%◌, ◌==◌, nat_lt, slice_get, bytes_eq, if◌then◌else◌}
-use Rattle.std.specs.List.{list_any, position_or_len, AllByRecursion}
+use Rattle.std.specs.List.{list_all, list_any, position_or_len, AllByRecursion}
 use Rattle.std.proofs.lemmas.Bool.Decides.{nat_tests}
 use Rattle.std.proofs.lemmas.List.{get_or-set_same, get_or-set_other, length-take-le, length-replicate}
 use Rattle.std.proofs.lemmas.List.Folds.{list_all-append}
@@ -17,23 +17,25 @@ use Rattle.dev_model.proofs.Names.{among, Mem, mem-any, distinct-join}
 use Rattle.dev_model.proofs.Valid.{and-true, or-false, not-back}
 use Rattle.dev_model.proofs.ValidTable.{map-append}
 use Rattle.dev_model.proofs.ValidSizes.{whole-round}
-use Rattle.unit_alloc.specs.Owning.{Owning, OneOwner, free_units, with_units, handed, units_of}
+use Rattle.unit_alloc.specs.Owning.{Owning, free_units, with_units, handed, units_of}
 use Rattle.super_meta.specs.Contents.{Content}
 use Rattle.dev_store.specs.declared.layout.SuperPart.{SuperPart}
 use Rattle.dev_store.specs.declared.state.State.{State}
 use Rattle.dev_store.specs.Layouts.{LayoutValue}
+use Rattle.dev_store.specs.Runs.{table_for}
+use Rattle.dev_store.specs.SuperBounds.{IsMapOf}
 use Rattle.dev_store.specs.Held.{units_by}
 use Rattle.dev_store.specs.Stand.{super_bytes}
-use Rattle.dev_store.proofs.ChangeNamed.{by_name, at-name, by-cons, by-place, by-names, not-or, eq-is}
+use Rattle.dev_store.proofs.ChangeNamed.{by_name, at-name, by-cons, by-place, by-names, fit-each, not-or, eq-is}
 use Rattle.dev_store.proofs.ChangeUnits.{AreOnce}
 use Rattle.dev_store.proofs.ChangeMaps.{once-rest, once-other}
 use Rattle.dev_store.proofs.ChangeBytes.{IsTouched, IsFilled, zeros-lie}
 use Rattle.dev_store.proofs.ChangeStore.{HasUnits, device_in, store-device, store-many}
-use Rattle.dev_store.proofs.ChangeAfter.{device-after, device-before, units-after, fitted-after}
+use Rattle.dev_store.proofs.ChangeAfter.{IsTableOf, table-of-lists, device-after, device-before}
 use Rattle.dev_store.proofs.ChangeOne.{any-at}
-use Rattle.dev_store.proofs.ChangeResize.{IsWrittenFor, of-logical}
+use Rattle.dev_store.proofs.ChangeResize.{of-logical}
 use Rattle.dev_store.proofs.ChangeDelete.{once-cons}
-use Rattle.dev_store.specs.TableChanges.{IsFitted, LiesIn, IsStoreSuper}
+use Rattle.dev_store.specs.TableChanges.{IsFitted, AreFitted, LiesIn, IsStoreSuper}
 
 never : (b : Bool) → b ≡ true → b ≡ false → ⊥
 never b h k = cc
@@ -143,8 +145,8 @@ any-push (p ∷ parts) part k h =
     let b = any-push parts part k a.1 in
     (ap (λ x. x || list_any (λ p. p == k) parts) a.0 ∙ b.0, b.1)
 
-module _ (layout : LayoutValue) (s : SuperPart) (state : State) (c : Content) (o now : Owning) (parts old new name : List ℕ) (part count : ℕ) (h : IsStoreSuper layout s state c o parts old)
-    (free : list_any (λ p. p == part) parts ≡ false) (inside : part < 128) (e : now ≡ handed o part (take count (free_units o))) (one : OneOwner now)
+module _ (layout : LayoutValue) (s : SuperPart) (state : State) (c : Content) (o now : Owning) (parts old name : List ℕ) (part count size : ℕ) (h : IsStoreSuper layout s state c o parts old)
+    (free : list_any (λ p. p == part) parts ≡ false) (inside : part < 128) (e : now ≡ handed o part (take count (free_units o)))
     (fresh : not (among name (map (λ p. p.name) (device_in layout state c old).logical)) ≡ true) where
 
   -- the map has the new list for the part
@@ -160,57 +162,87 @@ module _ (layout : LayoutValue) (s : SuperPart) (state : State) (c : Content) (o
       ∙ named-apart o parts (device_in layout state c old).logical part (take count (free_units o)) other (store-many layout s state c o parts old h) free
 
   -- the device before, while bytes of the new units change
-  pub create-before : IsTouched layout s (by_name o parts (device_in layout state c old).logical) (device_in layout state c old).logical name (units_of now part) 0 old new →
+  pub create-before : (new : List ℕ) → IsTouched layout s (by_name o parts (device_in layout state c old).logical) (device_in layout state c old).logical name (units_of now part) 0 old new →
       device_in layout state c new ≡ device_in layout state c old
-  create-before tail =
+  create-before new tail =
       let dev = device_in layout state c old in
       let f = by_name o parts dev.logical in
       device-before layout s state c o parts old new h tail.physical
       (each-fresh (λ p. p.name ≢ name → LiesIn s (super_bytes layout s new) p (f p.name)) (λ p. LiesIn s (super_bytes layout s new) p (f p.name)) name dev.logical fresh (λ p ne x. x ne) tail.others)
 
-  -- the new partition, over a file with zeros in its units
-  pub create-after : (size : ℕ) → count ≡ units_for s.unit (round_up size) → count ≤ length (free_units o) → is_group (device_in layout state c old).groups (codes "default") ≡ true →
-      IsFilled layout s (by_name o parts (device_in layout state c old).logical) (device_in layout state c old).logical name (units_of now part) 0 (round_up size) old new → IsWrittenFor layout s state now (parts ++ part ∷ []) new (created name size (device_in layout state c old))
-  create-after size needs room group padded =
+  create-units : by_name now (parts ++ part ∷ []) ((device_in layout state c old).logical ++ new_logical name size ∷ []) name ≡ units_of now part
+  create-units = added-own now parts (device_in layout state c old).logical part (new_logical name size) (store-many layout s state c o parts old h) fresh
+
+  create-others : (other : List ℕ) → other ≢ name → by_name now (parts ++ part ∷ []) ((device_in layout state c old).logical ++ new_logical name size ∷ []) other ≡ by_name o parts (device_in layout state c old).logical other
+  create-others other ne = added-other now parts (device_in layout state c old).logical part (new_logical name size) other (store-many layout s state c o parts old h) ne ∙ now-other other
+
+  create-lists : map (λ p. by_name now (parts ++ part ∷ []) ((device_in layout state c old).logical ++ new_logical name size ∷ []) p.name) ((device_in layout state c old).logical ++ new_logical name size ∷ [])
+      ≡ map (units_of now) (parts ++ part ∷ [])
+  create-lists =
       let dev = device_in layout state c old in
       let d = store-device layout s state c o parts old h in
-      let many = store-many layout s state c o parts old h in
+      by-names now (parts ++ part ∷ []) (dev.logical ++ new_logical name size ∷ []) (many-more parts dev.logical part (new_logical name size) (store-many layout s state c o parts old h))
+      (names-pushed dev.logical (new_logical name size) d.units.names fresh)
+
+  create-groups : is_group (device_in layout state c old).groups (codes "default") ≡ true →
+      list_all (λ p. is_group (device_in layout state c old).groups p.group) ((device_in layout state c old).logical ++ new_logical name size ∷ []) ≡ true
+  create-groups group =
+      let dev = device_in layout state c old in
+      let d = store-device layout s state c o parts old h in
+      list_all-append (λ p. is_group dev.groups p.group) dev.logical (new_logical name size ∷ []) ∙ and-true _ _ d.units.groups (and-true _ _ group refl)
+
+  -- the table that is written, whatever the bytes are
+  pub create-table : count ≡ units_for s.unit (round_up size) → count ≤ length (free_units o) → is_group (device_in layout state c old).groups (codes "default") ≡ true →
+      IsTableOf s (created name size (device_in layout state c old)) (map (units_of now) (parts ++ part ∷ []))
+  create-table needs room group =
+      let dev = device_in layout state c old in
+      let d = store-device layout s state c o parts old h in
+      let q = new_logical name size in
+      let f = by_name o parts dev.logical in
+      let g = by_name now (parts ++ part ∷ []) (dev.logical ++ q ∷ []) in
+      let size-is : length q.bytes ≡ round_up size = length-replicate (round_up size) 0 in
+      table-of-lists s g (created name size dev) (map (units_of now) (parts ++ part ∷ [])) d.bounded
+      (all-push (λ p. IsFitted s.unit p (g p.name)) dev.logical q
+      (each-fresh (λ p. IsFitted s.unit p (f p.name)) (λ p. IsFitted s.unit p (g p.name)) name dev.logical fresh (λ p ne x. subst (IsFitted s.unit p) (sym (create-others p.name ne)) x) d.units.fits)
+      (record {
+        many = ap length (create-units ∙ now-own) ∙ (length-take-le count (free_units o) room ∙ (needs ∙ ap (units_for s.unit) (sym size-is)));
+        whole = ap (λ n. n % 4096) size-is ∙ eq-is (round_up size % 4096) 0 (whole-round size);
+      }))
+      (create-groups group) create-lists
+
+  pub create-map : count ≡ units_for s.unit (round_up size) → count ≤ length (free_units o) → is_group (device_in layout state c old).groups (codes "default") ≡ true →
+      IsMapOf s (table_for s (created name size (device_in layout state c old)) (map (units_of now) (parts ++ part ∷ []))) now (parts ++ part ∷ [])
+  create-map needs room group = record {
+    units = ap (λ (q : Owning). q.units) now-is ∙ h.mapped.units;
+    many = ap (λ (q : Owning). length q.parts) now-is ∙ (length-set o.parts part (take count (free_units o)) ∙ h.mapped.many);
+    there = list_all-append (λ part. nat_lt part 128) parts (part ∷ []) ∙ and-true _ _ h.mapped.there (and-true _ _ (grind (arith, nat_tests)) refl);
+    lists = (create-table needs room group).units;
+    apart = once-push parts part h.mapped.apart (not-at parts part free);
+    empty = λ k x.
+        let a = any-push parts part k x in
+        let ne : k ≢ part = λ r. absurd (let b = a.1 in grind (arith, nat_tests)) in
+        ap (λ q. units_of q k) now-is ∙ (get_or-set_other o.parts part k (take count (free_units o)) [] ne ∙ h.mapped.empty k a.0);
+  }
+
+  -- the device of the table that is written, over a file with zeros in the new units
+  pub create-after : (new : List ℕ) → count ≡ units_for s.unit (round_up size) → count ≤ length (free_units o) → is_group (device_in layout state c old).groups (codes "default") ≡ true →
+      IsFilled layout s (by_name o parts (device_in layout state c old).logical) (device_in layout state c old).logical name (units_of now part) 0 (round_up size) old new →
+      device_in layout state (table_for s (created name size (device_in layout state c old)) (map (units_of now) (parts ++ part ∷ []))) new ≡ created name size (device_in layout state c old)
+  create-after new needs room group padded =
+      let dev = device_in layout state c old in
+      let d = store-device layout s state c o parts old h in
       let q = new_logical name size in
       let next = created name size dev in
-      let rest = parts ++ part ∷ [] in
       let f = by_name o parts dev.logical in
-      let g = by_name now rest next.logical in
-      let own : g name ≡ units_of now part = added-own now parts dev.logical part q many fresh in
-      let others : (other : List ℕ) → other ≢ name → f other ≡ g other = λ other ne. sym (added-other now parts dev.logical part q other many ne ∙ now-other other) in
-      let size-is : length q.bytes ≡ round_up size = length-replicate (round_up size) 0 in
+      let g = by_name now (parts ++ part ∷ []) next.logical in
+      let table = create-table needs room group in
       let units : HasUnits layout s new g next = record {
         names = names-pushed dev.logical q d.units.names fresh;
         lies = all-push (λ p. LiesIn s (super_bytes layout s new) p (g p.name)) dev.logical q
             (each-fresh (λ p. p.name ≢ name → LiesIn s (super_bytes layout s new) p (f p.name)) (λ p. LiesIn s (super_bytes layout s new) p (g p.name)) name dev.logical fresh
-            (λ p ne x. subst (LiesIn s (super_bytes layout s new) p) (others p.name ne) (x ne)) padded.touched.others)
-            (subst (LiesIn s (super_bytes layout s new) q) (sym own) (zeros-lie layout s q (units_of now part) (round_up size) old new refl padded.padded));
-        fits = all-push (λ p. IsFitted s.unit p (g p.name)) dev.logical q
-            (each-fresh (λ p. IsFitted s.unit p (f p.name)) (λ p. IsFitted s.unit p (g p.name)) name dev.logical fresh (λ p ne x. subst (IsFitted s.unit p) (others p.name ne) x) d.units.fits)
-            (record {
-              many = ap length (own ∙ now-own) ∙ (length-take-le count (free_units o) room ∙ (needs ∙ ap (units_for s.unit) (sym size-is)));
-              whole = ap (λ n. n % 4096) size-is ∙ eq-is (round_up size % 4096) 0 (whole-round size);
-            });
-        groups = list_all-append (λ p. is_group dev.groups p.group) dev.logical (q ∷ []) ∙ and-true _ _ d.units.groups (and-true _ _ group refl);
+            (λ p ne x. subst (LiesIn s (super_bytes layout s new) p) (sym (create-others p.name ne)) (x ne)) padded.touched.others)
+            (subst (LiesIn s (super_bytes layout s new) q) (sym create-units) (zeros-lie layout s q (units_of now part) (round_up size) old new refl padded.padded));
+        fits = fit-each s.unit g next.logical (subst (AreFitted s.unit next.logical) (sym create-lists) table.fitted);
+        groups = create-groups group;
       } in
-      let lists : map (λ p. g p.name) next.logical ≡ map (units_of now) rest = by-names now rest next.logical (many-more parts dev.logical part q many) units.names in
-      record {
-        device = device-after layout s state new g next (map (units_of now) rest) h.part d.bounded
-            (of-logical layout state old new dev next.logical d.same padded.touched.physical) units lists;
-        mapped = record {
-          units = ap (λ (q : Owning). q.units) now-is ∙ h.mapped.units;
-          many = ap (λ (q : Owning). length q.parts) now-is ∙ (length-set o.parts part (take count (free_units o)) ∙ h.mapped.many);
-          there = list_all-append (λ part. nat_lt part 128) parts (part ∷ []) ∙ and-true _ _ h.mapped.there (and-true _ _ (grind (arith, nat_tests)) refl);
-          lists = units-after layout s new g next (map (units_of now) rest) d.bounded units lists;
-          apart = once-push parts part h.mapped.apart (not-at parts part free);
-          empty = λ k x.
-              let a = any-push parts part k x in
-              let ne : k ≢ part = λ r. absurd (let b = a.1 in grind (arith, nat_tests)) in
-              ap (λ q. units_of q k) now-is ∙ (get_or-set_other o.parts part k (take count (free_units o)) [] ne ∙ h.mapped.empty k a.0);
-        };
-        fitted = fitted-after layout s new g next (map (units_of now) rest) units lists;
-      }
+      device-after layout s state new g next (map (units_of now) (parts ++ part ∷ [])) h.part d.bounded (of-logical layout state old new dev next.logical d.same padded.touched.physical) units create-lists

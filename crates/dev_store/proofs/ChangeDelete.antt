@@ -24,7 +24,7 @@ use Rattle.dev_store.proofs.ChangeNamed.{by_name, at-name, by-cons, by-names, no
 use Rattle.dev_store.proofs.ChangeUnits.{AreOnce, named-other}
 use Rattle.dev_store.proofs.ChangeMaps.{once-rest, once-other}
 use Rattle.dev_store.proofs.ChangeStore.{HasUnits, device_in, store-device, store-many}
-use Rattle.dev_store.proofs.ChangeAfter.{device-after, units-after, fitted-after}
+use Rattle.dev_store.proofs.ChangeAfter.{table-of-lists, device-after}
 use Rattle.dev_store.proofs.ChangeResize.{IsWrittenFor, of-logical, part-inside}
 use Rattle.dev_store.proofs.ValidUnits.{all-take, all-drop}
 use Rattle.dev_store.specs.TableChanges.{IsFitted, LiesIn, IsStoreSuper}
@@ -186,17 +186,18 @@ delete-after layout s state c o now parts file name part h there at e =
       groups = all-filter (λ p. is_group dev.groups p.group) (λ p. not (bytes_eq p.name name)) dev.logical d.units.groups;
     } in
     let lists : map (λ p. g p.name) next.logical ≡ map (units_of now) rest = by-names now rest next.logical t.many units.names in
+    let table = table-of-lists s g next (map (units_of now) rest) d.bounded units.fits units.groups lists in
     record {
       device = device-after layout s state file g next (map (units_of now) rest) h.part d.bounded (of-logical layout state file file dev next.logical d.same refl) units lists;
       mapped = record {
         units = ap (λ (q : Owning). q.units) e ∙ h.mapped.units;
         many = ap (λ (q : Owning). length q.parts) e ∙ (length-set o.parts part [] ∙ h.mapped.many);
         there = all-without (λ part. nat_lt part 128) i parts h.mapped.there;
-        lists = units-after layout s file g next (map (units_of now) rest) d.bounded units lists;
+        lists = table.units;
         apart = once-without i parts h.mapped.apart;
         empty = λ k f. ap (λ q. units_of q k) e ∙ by k f (cases_eq k part) inside;
       };
-      fitted = fitted-after layout s file g next (map (units_of now) rest) units lists;
+      fitted = table.fitted;
     }
   where
     by : (k : ℕ) → IsFalse (list_any (λ p. p == k) (without (position_or_len (at-name name) (device_in layout state c file).logical) parts)) → (k ≡ part) ⊎ (k ≢ part) → part < length o.parts →

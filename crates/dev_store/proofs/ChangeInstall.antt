@@ -23,7 +23,7 @@ use Rattle.dev_store.proofs.ChangeNamed.{by_name, at-name}
 use Rattle.dev_store.proofs.ChangeUnits.{AreOnce}
 use Rattle.dev_store.proofs.ChangeTable.{ceil-is}
 use Rattle.dev_store.proofs.ChangeStore.{HasUnits, device_in, store-device, logical-names, groups-known}
-use Rattle.dev_store.proofs.ChangeAfter.{device-after, units-after, fitted-after}
+use Rattle.dev_store.proofs.ChangeAfter.{table-of-lists, device-after}
 use Rattle.dev_store.proofs.ChangeResize.{IsWrittenFor}
 use Rattle.dev_store.specs.TableChanges.{IsFitted, LiesIn, IsStoreSuper}
 
@@ -156,15 +156,16 @@ install-after layout s state c o now parts rest file tables wipe h valid units m
       table_minor = next.table_minor;
       table_flags = next.table_flags;
     } in y) d.same in
+    let table = table-of-lists s g next (map (units_of now) rest) d.bounded has.fits has.groups (sym is) in
     record {
       device = device-after layout s state file g next (map (units_of now) rest) h.part d.bounded of has (sym is);
       mapped = record {
         units = units ∙ h.mapped.units;
         many = many;
         there = there;
-        lists = units-after layout s file g next (map (units_of now) rest) d.bounded has (sym is);
+        lists = table.units;
         apart = once;
         empty = empty;
       };
-      fitted = fitted-after layout s file g next (map (units_of now) rest) has (sym is);
+      fitted = table.fitted;
     }

@@ -30,11 +30,11 @@ use Rattle.dev_store.specs.SuperBounds.{IsMapOf}
 use Rattle.dev_store.specs.Held.{units_by}
 use Rattle.dev_store.specs.Stand.{super_bytes, physical_at, device_with}
 use Rattle.dev_store.proofs.ChangeHeld.{IsDeviceOf, value_in}
-use Rattle.dev_store.proofs.ChangeNamed.{by_name, at-name, by-place, by-names, not-or, eq-is}
+use Rattle.dev_store.proofs.ChangeNamed.{by_name, at-name, by-place, by-names, fit-each, not-or, eq-is}
 use Rattle.dev_store.proofs.ChangeBytes.{IsTouched, IsFilled, super-long, padded-lies, kept-lies}
 use Rattle.dev_store.proofs.ChangeStore.{HasUnits, device_in, file-long, store-device, store-many}
-use Rattle.dev_store.proofs.ChangeAfter.{device-after, device-before, units-after, fitted-after}
-use Rattle.dev_store.proofs.ChangeOne.{one-changed, below-of, empty-one}
+use Rattle.dev_store.proofs.ChangeAfter.{IsTableOf, table-of-lists, device-after, device-before}
+use Rattle.dev_store.proofs.ChangeOne.{IsOneChanged, one-changed, below-of, empty-one}
 use Rattle.dev_store.specs.TableChanges.{IsFitted, AreFitted, LiesIn, IsStoreSuper, regrown}
 
 -- the partition of the name is this long
@@ -177,57 +177,81 @@ part-inside s c o parts i part h at = let l = inside-of parts i part h.there at 
 part-own : (o : Owning) (parts : List ℕ) (ps : List Logical) (name : List ℕ) (part : ℕ) → length parts ≡ length ps → slice_get parts (position_or_len (at-name name) ps) ≡ Some part → by_name o parts ps name ≡ units_of o part
 part-own o parts ps name part many at = by-place o parts ps name many ∙ ap (units_by (Some o)) at
 
--- a partition of another length, over a file in which zeros follow its bytes
-pub resize-after : (layout : LayoutValue) (s : SuperPart) (state : State) (c : Content) (o now : Owning) (parts old new name : List ℕ) (part len size : ℕ) → IsStoreSuper layout s state c o parts old →
-    slice_get parts (position_or_len (at-name name) (device_in layout state c old).logical) ≡ Some part → now ≡ regrown o part (units_for s.unit (round_up size)) → OneOwner now →
-    units_for s.unit (round_up size) ≤ length (units_of o part) + length (free_units o) → IsLong name len (device_in layout state c old).logical →
-    IsFilled layout s (by_name o parts (device_in layout state c old).logical) (device_in layout state c old).logical name (units_of now part) len (round_up size) old new →
-    IsWrittenFor layout s state now parts new (apply (Resize name size) (device_in layout state c old))
-resize-after layout s state c o now parts old new name part len size h at e one room n padded =
-    let dev = device_in layout state c old in
-    let d = store-device layout s state c o parts old h in
-    let count = units_for s.unit (round_up size) in
-    let own = units_of o part in
-    let more = take (count - length own) (free_units o) in
-    let list = take count own ++ more in
-    let many = store-many layout s state c o parts old h in
-    let inside = part-inside s c o parts (position_or_len (at-name name) dev.logical) part h.mapped at in
-    let f = by_name o parts dev.logical in
-    let g = by_name now parts dev.logical in
-    let is : f name ≡ own = part-own o parts dev.logical name part many at in
-    let ch = one-changed o now parts dev.logical name list part many h.mapped.apart at inside e one in
-    let four = d.bounded.unit in
-    let pos : 0 < s.unit = omega arith in
-    let g-is : g name ≡ take count (f name) ++ more = ch.own ∙ ap (λ l. take count l ++ more) (sym is) in
-    let g-own : units_of now part ≡ g name = sym (part-own now parts dev.logical name part many at) in
-    let next = apply (Resize name size) dev in
-    let below = below-of o parts dev.logical name (unit_count s) many h.one h.mapped.units in
-    let whole = eq-is (round_up size % 4096) 0 (whole-round size) in
-    let enough : length (g name) ≡ count = ap length ch.own ∙ grown-many own (free_units o) count room in
-    let units : HasUnits layout s new g next = record {
-      names = ap are_distinct (map-same (logical_changed name (cut_or_padded (round_up size))) (λ p. p.name) (λ p. refl) dev.logical) ∙ d.units.names;
-      lies = parts-after layout s old new f g name more len count (round_up size) d.long pos below refl g-is ch.others
-          (subst (λ l. take len (units_bytes s (super_bytes layout s new) l) ≡ take len (units_bytes s (super_bytes layout s old) l)) g-own padded.touched.kept)
-          (subst (λ l. take (round_up size - len) (drop len (units_bytes s (super_bytes layout s new) l)) ≡ zeros (round_up size - len)) g-own padded.padded)
-          dev.logical n d.units.fits d.units.lies padded.touched.others;
-      fits = fits-after s.unit f g name count (round_up size) refl whole enough ch.others dev.logical d.units.fits;
-      groups = all-same (logical_changed name (cut_or_padded (round_up size))) (λ p. is_group dev.groups p.group) (λ p. refl) dev.logical ∙ d.units.groups;
-    } in
-    let lists : map (λ p. g p.name) next.logical ≡ map (units_of now) parts =
-    map-same (logical_changed name (cut_or_padded (round_up size))) (λ p. g p.name) (λ p. refl) dev.logical ∙ by-names now parts dev.logical many d.units.names in
-    let of = of-logical layout state old new dev next.logical d.same padded.touched.physical in
-    record {
-      device = device-after layout s state new g next (map (units_of now) parts) h.part d.bounded of units lists;
-      mapped = record {
-        units = ap (λ (q : Owning). q.units) e ∙ h.mapped.units;
-        many = ap (λ (q : Owning). length q.parts) e ∙ (length-set o.parts part list ∙ h.mapped.many);
-        there = h.mapped.there;
-        lists = units-after layout s new g next (map (units_of now) parts) d.bounded units lists;
-        apart = h.mapped.apart;
-        empty = empty-one o now parts (position_or_len (at-name name) dev.logical) part list at e h.mapped.empty;
-      };
-      fitted = fitted-after layout s new g next (map (units_of now) parts) units lists;
-    }
+-- the units of a part that has as many
+abbrev regrown-list : Owning → ℕ → ℕ → List ℕ
+regrown-list o part count = take count (units_of o part) ++ take (count - length (units_of o part)) (free_units o)
+
+-- the names of partitions of which one has another length
+resized-names : (name : List ℕ) (size : ℕ) (ps : List Logical) → map (λ p. p.name) (map (logical_changed name (cut_or_padded size)) ps) ≡ map (λ p. p.name) ps
+resized-names name size ps = map-same (logical_changed name (cut_or_padded size)) (λ p. p.name) (λ p. refl) ps
+
+module _ (layout : LayoutValue) (s : SuperPart) (state : State) (c : Content) (o now : Owning) (parts old name : List ℕ) (part size : ℕ) (h : IsStoreSuper layout s state c o parts old)
+    (at : slice_get parts (position_or_len (at-name name) (device_in layout state c old).logical) ≡ Some part) (e : now ≡ regrown o part (units_for s.unit (round_up size))) (one : OneOwner now)
+    (room : units_for s.unit (round_up size) ≤ length (units_of o part) + length (free_units o)) where
+
+  resized-one : IsOneChanged o now parts (device_in layout state c old).logical name (regrown-list o part (units_for s.unit (round_up size)))
+  resized-one =
+      one-changed o now parts (device_in layout state c old).logical name (regrown-list o part (units_for s.unit (round_up size))) part (store-many layout s state c o parts old h) h.mapped.apart at
+      (part-inside s c o parts (position_or_len (at-name name) (device_in layout state c old).logical) part h.mapped at) e one
+
+  -- the map of units and the table that is written, whatever the bytes are
+  pub resize-table : IsTableOf s (apply (Resize name size) (device_in layout state c old)) (map (units_of now) parts)
+  resize-table =
+      let dev = device_in layout state c old in
+      let d = store-device layout s state c o parts old h in
+      let count = units_for s.unit (round_up size) in
+      let g = by_name now parts dev.logical in
+      let ch = resized-one in
+      table-of-lists s g (apply (Resize name size) dev) (map (units_of now) parts) d.bounded
+      (fits-after s.unit (by_name o parts dev.logical) g name count (round_up size) refl (eq-is (round_up size % 4096) 0 (whole-round size))
+      (ap length ch.own ∙ grown-many (units_of o part) (free_units o) count room) ch.others dev.logical d.units.fits)
+      (all-same (logical_changed name (cut_or_padded (round_up size))) (λ p. is_group dev.groups p.group) (λ p. refl) dev.logical ∙ d.units.groups)
+      (map-same (logical_changed name (cut_or_padded (round_up size))) (λ p. g p.name) (λ p. refl) dev.logical ∙ by-names now parts dev.logical (store-many layout s state c o parts old h) d.units.names)
+
+  pub resize-map : IsMapOf s (table_for s (apply (Resize name size) (device_in layout state c old)) (map (units_of now) parts)) now parts
+  resize-map = record {
+    units = ap (λ (q : Owning). q.units) e ∙ h.mapped.units;
+    many = ap (λ (q : Owning). length q.parts) e ∙ (length-set o.parts part (regrown-list o part (units_for s.unit (round_up size))) ∙ h.mapped.many);
+    there = h.mapped.there;
+    lists = resize-table.units;
+    apart = h.mapped.apart;
+    empty = empty-one o now parts (position_or_len (at-name name) (device_in layout state c old).logical) part (regrown-list o part (units_for s.unit (round_up size))) at e h.mapped.empty;
+  }
+
+  -- the device of the table that is written, over a file in which zeros follow the partition's bytes
+  pub resize-after : (new : List ℕ) (len : ℕ) → IsLong name len (device_in layout state c old).logical →
+      IsFilled layout s (by_name o parts (device_in layout state c old).logical) (device_in layout state c old).logical name (units_of now part) len (round_up size) old new →
+      device_in layout state (table_for s (apply (Resize name size) (device_in layout state c old)) (map (units_of now) parts)) new ≡ apply (Resize name size) (device_in layout state c old)
+  resize-after new len n padded =
+      let dev = device_in layout state c old in
+      let d = store-device layout s state c o parts old h in
+      let count = units_for s.unit (round_up size) in
+      let own = units_of o part in
+      let more = take (count - length own) (free_units o) in
+      let many = store-many layout s state c o parts old h in
+      let f = by_name o parts dev.logical in
+      let g = by_name now parts dev.logical in
+      let is : f name ≡ own = part-own o parts dev.logical name part many at in
+      let ch = resized-one in
+      let four = d.bounded.unit in
+      let pos : 0 < s.unit = omega arith in
+      let g-is : g name ≡ take count (f name) ++ more = ch.own ∙ ap (λ l. take count l ++ more) (sym is) in
+      let g-own : units_of now part ≡ g name = sym (part-own now parts dev.logical name part many at) in
+      let next = apply (Resize name size) dev in
+      let below = below-of o parts dev.logical name (unit_count s) many h.one h.mapped.units in
+      let table = resize-table in
+      let lists : map (λ p. g p.name) next.logical ≡ map (units_of now) parts =
+      map-same (logical_changed name (cut_or_padded (round_up size))) (λ p. g p.name) (λ p. refl) dev.logical ∙ by-names now parts dev.logical many d.units.names in
+      let units : HasUnits layout s new g next = record {
+        names = ap are_distinct (resized-names name (round_up size) dev.logical) ∙ d.units.names;
+        lies = parts-after layout s old new f g name more len count (round_up size) d.long pos below refl g-is ch.others
+            (subst (λ l. take len (units_bytes s (super_bytes layout s new) l) ≡ take len (units_bytes s (super_bytes layout s old) l)) g-own padded.touched.kept)
+            (subst (λ l. take (round_up size - len) (drop len (units_bytes s (super_bytes layout s new) l)) ≡ zeros (round_up size - len)) g-own padded.padded)
+            dev.logical n d.units.fits d.units.lies padded.touched.others;
+        fits = fit-each s.unit g next.logical (subst (AreFitted s.unit next.logical) (sym lists) table.fitted);
+        groups = all-same (logical_changed name (cut_or_padded (round_up size))) (λ p. is_group dev.groups p.group) (λ p. refl) dev.logical ∙ d.units.groups;
+      } in
+      device-after layout s state new g next (map (units_of now) parts) h.part d.bounded (of-logical layout state old new dev next.logical d.same padded.touched.physical) units lists
 
 -- the device before, while bytes after those of the partition change in the units that it is to have
 pub resize-before : (layout : LayoutValue) (s : SuperPart) (state : State) (c : Content) (o now : Owning) (parts old new name : List ℕ) (part len count : ℕ) → IsStoreSuper layout s state c o parts old →
