@@ -3,7 +3,7 @@ use Rattle.std.proofs.Common.{◌≡◌, ℕ, ◌+◌, ◌-◌, ◌≤◌, Bool,
 use Rattle.std.specs.Prelude.{IfSome}
 use Rattle.std.proofs.lemmas.List.{append-nil}
 use Rattle.std.proofs.Math.Seq.{drop-length}
-use Rattle.sparse_image.specs.Cuts.{Part, part_len, part_bytes, PutsPart}
+use Rattle.sparse_image.specs.Cuts.{Part, part_len, part_bytes, PutsPart, HasPartImage}
 use Rattle.sparse_image.specs.Outside.{Fell, Grew}
 use Rattle.wire_told.specs.Peers.{Peer, Apart, Joined, OfLink, OnLink}
 use Rattle.wire_told.specs.Answered.{got_of}
@@ -22,29 +22,30 @@ pub up-after : (m n left have : ℕ) (up : Bool) → Fell (Some m) (room_by up l
 up-after m n left have true f = refl
 up-after m n left have false f = absurd f
 
-same-part : (told : Option (List ℕ)) (part : Part) (bytes all : List ℕ) → all ≡ bytes → length bytes ≡ part_len part → IfSome told (λ file. bytes ≡ part_bytes part file) → ArePart told part all
-same-part told part bytes all e long wanted = record {
+same-part : (told : Option (List ℕ)) (part : Part) (bytes all : List ℕ) → all ≡ bytes → length bytes ≡ part_len part → IfSome told (λ file. bytes ≡ part_bytes part file) → HasPartImage part told → ArePart told part all
+same-part told part bytes all e long wanted holds = record {
   long = ap length e ∙ long;
   wanted = subst (λ x. IfSome told (λ file. x ≡ part_bytes part file)) (sym e) wanted;
+  holds = holds;
 }
 
-put-part : (told : Option (List ℕ)) (part : Part) (x all : List ℕ) (put : Option (List ℕ)) → x ≡ [] → PutsPart part told (Some x) put → IfSome put (λ y. all ≡ y) → ArePart told part all
-put-part told part x all None e p w = absurd p.grew
-put-part told part x all (Some now) e p w =
-    same-part told part p.bytes all (w ∙ (p.grew ∙ ap (λ t. t ++ p.bytes) e)) p.long p.wanted
+put-part : (told : Option (List ℕ)) (part : Part) (x all : List ℕ) (put : Option (List ℕ)) → x ≡ [] → PutsPart part told (Some x) put → IfSome put (λ y. all ≡ y) → HasPartImage part told → ArePart told part all
+put-part told part x all None e p w holds = absurd p.grew
+put-part told part x all (Some now) e p w holds =
+    same-part told part p.bytes all (w ∙ (p.grew ∙ ap (λ t. t ++ p.bytes) e)) p.long p.wanted holds
 
-part-is : (told : Option (List ℕ)) (part : Part) (sent wire all : List ℕ) (a b : Option Peer) (put : Option (List ℕ)) → OnLink (IsTaken sent wire) a b → IfSome (data_by a b []) (λ x. x ≡ []) → PutsPart part told (data_by a b []) put → IfSome put (λ y. all ≡ y) → OfLink (λ w. ArePart told part all) a
-part-is told part sent wire all None b put t e p w = tt
-part-is told part sent wire all (Some (Apart dev)) b put t e p w = absurd t
-part-is told part sent wire all (Some (Joined u)) None put t e p w = absurd t
-part-is told part sent wire all (Some (Joined u)) (Some (Apart dev)) put t e p w = absurd t
-part-is told part sent wire all (Some (Joined u)) (Some (Joined v)) put t e p w = put-part told part _ all put e p w
+part-is : (told : Option (List ℕ)) (part : Part) (sent wire all : List ℕ) (a b : Option Peer) (put : Option (List ℕ)) → OnLink (IsTaken sent wire) a b → IfSome (data_by a b []) (λ x. x ≡ []) → PutsPart part told (data_by a b []) put → IfSome put (λ y. all ≡ y) → HasPartImage part told → OfLink (λ w. ArePart told part all) a
+part-is told part sent wire all None b put t e p w holds = tt
+part-is told part sent wire all (Some (Apart dev)) b put t e p w holds = absurd t
+part-is told part sent wire all (Some (Joined u)) None put t e p w holds = absurd t
+part-is told part sent wire all (Some (Joined u)) (Some (Apart dev)) put t e p w holds = absurd t
+part-is told part sent wire all (Some (Joined u)) (Some (Joined v)) put t e p w holds = put-part told part _ all put e p w holds
 
-pub Part-sent : (told : Option (List ℕ)) (part : Part) (a b c : PortTold) (left : ℕ) (put : Option (List ℕ)) → IsSending a b left → IfSome (data_by a.peer b.peer []) (λ x. x ≡ []) → PutsPart part told (data_by a.peer b.peer []) put → SendsAll put a c → IsPartSent told part a c
+pub Part-sent : (told : Option (List ℕ)) (part : Part) (a b c : PortTold) (left : ℕ) (put : Option (List ℕ)) → IsSending a b left → IfSome (data_by a.peer b.peer []) (λ x. x ≡ []) → PutsPart part told (data_by a.peer b.peer []) put → SendsAll put a c → HasPartImage part told → IsPartSent told part a c
 unfolding IsSending SendsAll IsPartSent
-Part-sent told part a b c left put s e p all = record {
+Part-sent told part a b c left put s e p all holds = record {
   bytes = all.bytes;
-  part_is = part-is told part s.bytes _ all.bytes a.peer b.peer put s.sent.took e p all.whole;
+  part_is = part-is told part s.bytes _ all.bytes a.peer b.peer put s.sent.took e p all.whole holds;
   sent = all.sent;
   sending = all.sending;
 }

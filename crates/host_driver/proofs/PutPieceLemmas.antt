@@ -88,7 +88,7 @@ Serving-loaded told part a b l s =
     (subst (λ n. Serving n a.peer) (omega arith) s)
 
 -- Both together.
-goes-both : (a b c : Seen) → (OfLink (λ w. Grew b.text c.text []) b.port.peer → OfLink (λ w. Grew b.text c.text []) a.port.peer) → GoesOn a b → GoesOn b c → GoesOn a c
+pub goes-both : (a b c : Seen) → (OfLink (λ w. Grew b.text c.text []) b.port.peer → OfLink (λ w. Grew b.text c.text []) a.port.peer) → GoesOn a b → GoesOn b c → GoesOn a c
 goes-both a b c back f g = record {
   quiet = of-both (λ w. Grew a.text b.text []) (λ w. Grew b.text c.text []) (λ w. Grew a.text c.text []) (λ w x y. Grew-append a.text b.text c.text [] [] x y) a.port.peer f.quiet (back g.quiet);
   grows = record { more = f.grows.more ++ g.grows.more; grew = Grew-append a.text b.text c.text f.grows.more g.grows.more f.grows.grew g.grows.grew };
@@ -96,7 +96,7 @@ goes-both a b c back f g = record {
   kept = Kept-trans a.port b.port c.port f.kept g.kept;
 }
 
-back-on : (R : Wire → Wire → Type 0) (Q : Type 0) (a b : Option Peer) → OnLink R a b → OfLink (λ w. Q) b → OfLink (λ w. Q) a
+pub back-on : (R : Wire → Wire → Type 0) (Q : Type 0) (a b : Option Peer) → OnLink R a b → OfLink (λ w. Q) b → OfLink (λ w. Q) a
 back-on R Q None b r q = tt
 back-on R Q (Some (Apart dev)) b r q = absurd r
 back-on R Q (Some (Joined w)) None r q = absurd r

@@ -8,7 +8,7 @@ use Rattle.fb_message.specs.declared.reply.Reply.{Reply}
 use Rattle.fb_message.specs.declared.reply.Reply.TheVariants.{Okay, Load}
 use Rattle.fb_link.specs.Concluded.{Concluded, Finished, IsGivenUp}
 use Rattle.fb_link.specs.Seen.{Seen}
-use Rattle.sparse_image.specs.Cuts.{Part, part_len, part_bytes}
+use Rattle.sparse_image.specs.Cuts.{Part, part_len, part_bytes, HasPartImage}
 use Rattle.wire_model.specs.Wire.{Wire}
 use Rattle.wire_told.specs.Answered.{Downloading, Unbegun, is_line, reply_frames}
 use Rattle.wire_told.specs.Peers.{Peer, OfLink, OnLink}
@@ -22,10 +22,11 @@ use Rattle.host_driver.specs.LinkOuts.{IsSent}
 use Rattle.host_driver.specs.Stepping.{WhyStopped}
 use Rattle.host_driver.specs.Wires.{data_wire, download_wire, LogGrew}
 
--- These bytes are those of the part, where the file is told, and as many in any case.
+-- These bytes are those of the part, with its image, where the file is told, and as many in any case.
 pub record ArePart (told : Option (List ℕ)) (part : Part) (bytes : List ℕ) : Type 0 where
   pub long : length bytes ≡ part_len part
   pub wanted : IfSome told (λ file. bytes ≡ part_bytes part file)
+  pub holds : HasPartImage part told
 
 -- All data of a download was sent; over a told connection it is the part.
 pub record SendsPart (told : Option (List ℕ)) (part : Part) (old new : PortTold) : Type 0 where
