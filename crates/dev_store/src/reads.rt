@@ -36,6 +36,14 @@ impl<K: Disk> Store<K> {
         self.layout.max_download()
     }
 
+    /// How many slots the device has: 0 or 2.
+    #[tactic(auto, unfolding(crate::specs::Held::device_held))]
+    pub fn slots(&self) -> u8
+        ensures slots { result ≡ self.now.device.slots }
+    {
+        self.layout.slots()
+    }
+
     /// The state.
     #[tactic(auto, unfolding(crate::specs::Held::device_held))]
     pub fn state(&self) -> State

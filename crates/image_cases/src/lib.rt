@@ -9,3 +9,5 @@ mod new_images;
 mod openings;
 #[cfg(test)]
 mod readings;
+#[cfg(test)]
+mod states;
