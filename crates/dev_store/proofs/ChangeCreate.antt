@@ -153,7 +153,7 @@ module _ (layout : LayoutValue) (s : SuperPart) (state : State) (c : Content) (o
   now-is : now ≡ with_units o part (take count (free_units o))
   now-is = e ∙ ap (λ l. with_units o part (l ++ take count (free_units o))) (h.mapped.empty part free)
 
-  now-own : units_of now part ≡ take count (free_units o)
+  pub now-own : units_of now part ≡ take count (free_units o)
   now-own = ap (λ q. units_of q part) now-is ∙ get_or-set_same o.parts part (take count (free_units o)) [] (let m = h.mapped.many in omega arith)
 
   now-other : (other : List ℕ) → by_name now parts (device_in layout state c old).logical other ≡ by_name o parts (device_in layout state c old).logical other
@@ -170,13 +170,13 @@ module _ (layout : LayoutValue) (s : SuperPart) (state : State) (c : Content) (o
       device-before layout s state c o parts old new h tail.physical
       (each-fresh (λ p. p.name ≢ name → LiesIn s (super_bytes layout s new) p (f p.name)) (λ p. LiesIn s (super_bytes layout s new) p (f p.name)) name dev.logical fresh (λ p ne x. x ne) tail.others)
 
-  create-units : by_name now (parts ++ part ∷ []) ((device_in layout state c old).logical ++ new_logical name size ∷ []) name ≡ units_of now part
+  pub create-units : by_name now (parts ++ part ∷ []) ((device_in layout state c old).logical ++ new_logical name size ∷ []) name ≡ units_of now part
   create-units = added-own now parts (device_in layout state c old).logical part (new_logical name size) (store-many layout s state c o parts old h) fresh
 
-  create-others : (other : List ℕ) → other ≢ name → by_name now (parts ++ part ∷ []) ((device_in layout state c old).logical ++ new_logical name size ∷ []) other ≡ by_name o parts (device_in layout state c old).logical other
+  pub create-others : (other : List ℕ) → other ≢ name → by_name now (parts ++ part ∷ []) ((device_in layout state c old).logical ++ new_logical name size ∷ []) other ≡ by_name o parts (device_in layout state c old).logical other
   create-others other ne = added-other now parts (device_in layout state c old).logical part (new_logical name size) other (store-many layout s state c o parts old h) ne ∙ now-other other
 
-  create-lists : map (λ p. by_name now (parts ++ part ∷ []) ((device_in layout state c old).logical ++ new_logical name size ∷ []) p.name) ((device_in layout state c old).logical ++ new_logical name size ∷ [])
+  pub create-lists : map (λ p. by_name now (parts ++ part ∷ []) ((device_in layout state c old).logical ++ new_logical name size ∷ []) p.name) ((device_in layout state c old).logical ++ new_logical name size ∷ [])
       ≡ map (units_of now) (parts ++ part ∷ [])
   create-lists =
       let dev = device_in layout state c old in

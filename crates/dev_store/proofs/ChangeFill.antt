@@ -1,30 +1,50 @@
 -- What writing in the partition of the next table leaves of the partitions of the table before.
-use Rattle.std.proofs.Common.{◌≡◌, ◌≢◌, ◌∙◌, refl, ap, sym, subst, ℕ, ◌+◌, ◌-◌, ◌≤◌, Bool, true, false, List, [], ◌∷◌, ◌++◌, map, length, take, drop, arith, Some, append-nil, drop_of_length-le}
+use Rattle.std.proofs.Common.{◌≡◌, ◌≢◌, ◌∙◌, refl, ap, sym, subst, ℕ, ◌+◌, ◌-◌, ◌≤◌, Bool, true, false, List, [], ◌∷◌, ◌++◌, map, length, take, drop, arith, Some, append-nil, drop_of_length-le, ◌<◌, ◌*◌, codes}
+use Rattle.dev_store.proofs.ToldLemmas.{zeros-long}
+use Rattle.dev_store.proofs.ChangeCreate.{new_logical, create-lists, create-table, create-map, create-units, create-others, now-own, many-more}
+use Rattle.dev_model.specs.Tables.{is_group}
+use Rattle.dev_store.proofs.ChangeBytes.{IsTouched, IsFilled}
+use Rattle.fb_frame.specs.Bytes.{zeros}
+use Rattle.dev_model.specs.declared.device.Physical.{Physical}
 use Rattle.std.proofs.Math.Seq.{take-append_seam, drop-append_seam}
-use Rattle.std.proofs.lemmas.List.{length-take-le, take-take, drop-take}
-use Rattle.std.specs.Prelude.{◌||◌, bytes_eq, if◌then◌else◌}
-use Rattle.std.specs.List.{list_any, AllByRecursion}
+use Rattle.std.proofs.lemmas.List.{length-take-le, take-take, drop-take, length-replicate}
+use Rattle.std.specs.Prelude.{◌||◌, bytes_eq, if◌then◌else◌, slice_get, nat_lt, not, ◌==◌}
+use Rattle.std.specs.List.{list_all, list_any, position_or_len, AllByRecursion}
+use Rattle.std.proofs.lemmas.Grind.{div_ceil_times}
 use Rattle.std.proofs.lemmas.Slice.Eq.{bytes_eq-Decides}
 use Rattle.dev_disk.specs.Files.{written}
 use Rattle.dev_model.specs.declared.device.Dev.{Dev}
 use Rattle.dev_model.specs.declared.device.Logical.{Logical}
-use Rattle.dev_model.specs.Partitions.{physical_changed, logical_changed}
-use Rattle.dev_model.specs.Steps.{cut_or_padded}
-use Rattle.dev_model.proofs.Names.{among}
+use Rattle.dev_model.specs.Partitions.{physical_changed, logical_changed, is_physical}
+use Rattle.dev_model.specs.Images.{round_up}
+use Rattle.dev_model.specs.Sizes.{units_for}
+use Rattle.dev_model.specs.declared.step.Step.TheVariants.{Resize}
+use Rattle.dev_model.specs.Steps.{cut_or_padded, apply, created}
+use Rattle.dev_model.specs.Validity.{IsValid}
+use Rattle.dev_model.proofs.Names.{among, any-mem, distinct-apart}
+use Rattle.dev_model.proofs.Valid.{map-same}
+use Rattle.dev_model.proofs.ValidTable.{any-map}
+use Rattle.unit_alloc.specs.Owning.{Owning, OneOwner, free_units, handed}
+use Rattle.unit_alloc.specs.Owning.{units_of as units_owned}
 use Rattle.dev_model.proofs.ValidSizes.{length-cut}
 use Rattle.super_meta.specs.declared.table.Partition.{Partition}
 use Rattle.super_meta.specs.Contents.{Content}
 use Rattle.dev_store.specs.declared.layout.SuperPart.{SuperPart}
 use Rattle.dev_store.specs.declared.state.State.{State}
 use Rattle.dev_store.specs.Changes.{put_at}
+use Rattle.dev_store.specs.LayoutLines.{unit_count}
 use Rattle.dev_store.specs.Layouts.{LayoutValue}
+use Rattle.dev_store.specs.Runs.{table_for}
 use Rattle.dev_store.specs.Supers.{units_bytes, logical_at}
 use Rattle.dev_store.specs.Stand.{super_bytes, physical_at}
-use Rattle.dev_store.specs.Held.{device_held}
-use Rattle.dev_store.proofs.PartDevices.{unnamed, physical-keeps}
-use Rattle.dev_store.proofs.ChangeNamed.{at-name}
-use Rattle.dev_store.proofs.ChangeStore.{device_in, held-logical}
-use Rattle.dev_store.specs.TableChanges.{AreEntriesOf, LiesIn}
+use Rattle.dev_store.specs.Held.{device_held, units_by}
+use Rattle.dev_store.proofs.PartDevices.{unnamed, physical-keeps, names-apart, not-among}
+use Rattle.dev_store.proofs.ValidSuper.{units-long}
+use Rattle.dev_store.proofs.ChangeNamed.{by_name, at-name, by-place, by-names}
+use Rattle.dev_store.proofs.ChangeOne.{below-of}
+use Rattle.dev_store.proofs.ChangeResize.{resize-table, resize-map, resized-one, resized-many}
+use Rattle.dev_store.proofs.ChangeStore.{device_in, held-logical, store-device, store-many}
+use Rattle.dev_store.specs.TableChanges.{AreEntriesOf, LiesIn, IsStoreSuper, regrown}
 
 -- a partition with the bytes that lie in its units
 abbrev pub lying : SuperPart → List ℕ → (List ℕ → List ℕ) → Logical → Logical
@@ -176,3 +196,177 @@ own-resized : (s : SuperPart) (old new : List ℕ) (g : List ℕ → List ℕ) (
 own-resized s old new g name change size [] h = tt
 own-resized s old new g name change size (p ∷ ps) h =
     ((λ e. own-put s old new g name change size (record p { bytes = cut_or_padded size p.bytes }) (length-cut size p.bytes) (h.0.0 e) e), own-resized s old new g name change size ps h.1)
+
+-- the units of the next table hold as many bytes as its partition has
+holds-all : (s : SuperPart) (super units : List ℕ) (count size : ℕ) → length super ≡ s.size → 0 < s.unit → list_all (λ u. nat_lt u (unit_count s)) units ≡ true → length units ≡ count → count ≡ units_for s.unit size →
+    size ≤ length (units_bytes s super units)
+holds-all s super units count size long pos below n c =
+    let l = units-long s super long pos units below in
+    let d = div_ceil_times size s.unit pos in
+    let m = ap (λ k. k * s.unit) (n ∙ c) in
+    omega arith
+
+-- a logical partition's name is no physical one's
+physical-apart : (layout : LayoutValue) (state : State) (c : Content) (file name : List ℕ) → IsValid (device_in layout state c file) → among name (map (λ p. p.name) (device_in layout state c file).logical) ≡ true →
+    among name (map (λ p. p.name) (physical_at 12288 layout.physical file)) ≡ false
+physical-apart layout state c file name valid there =
+    let dev = device_in layout state c file in
+    let ps = map (λ p. p.name) dev.physical in
+    let ls = map (λ p. p.name) dev.logical in
+    ap (λ (qs : List Physical). among name (map (λ p. p.name) qs)) (sym (physical-in layout state c file))
+    ∙ not-among (among name ps) (λ m. distinct-apart ps ls (names-apart dev valid) name (any-mem name ps m) (any-mem name ls there))
+
+-- What a write in the partition of the next table touches: only its own bytes from the place on.
+module _ (layout : LayoutValue) (s : SuperPart) (state : State) (c : Content) (o now : Owning) (parts old name : List ℕ) (part size : ℕ) (h : IsStoreSuper layout s state c o parts old)
+    (at : slice_get parts (position_or_len (at-name name) (device_in layout state c old).logical) ≡ Some part) (e : now ≡ regrown o part (units_for s.unit (round_up size))) (one : OneOwner now)
+    (room : units_for s.unit (round_up size) ≤ length (units_owned o part) + length (free_units o)) (there : list_any (at-name name) (device_in layout state c old).logical ≡ true)
+    (new : List ℕ) (len : ℕ) (bytes : List ℕ) (same : length new ≡ length old)
+    (put : device_in layout state (table_for s (apply (Resize name size) (device_in layout state c old)) (map (units_owned now) parts)) new
+      ≡ put_at name len bytes (device_in layout state (table_for s (apply (Resize name size) (device_in layout state c old)) (map (units_owned now) parts)) old)) where
+
+  -- what was put in each partition of the next table
+  resize-puts : AllByRecursion (IsPut s (super_bytes layout s old) (super_bytes layout s new) (by_name now parts (device_in layout state c old).logical) name (λ b. written b len bytes))
+      (apply (Resize name size) (device_in layout state c old)).logical
+  resize-puts =
+      let dev = device_in layout state c old in
+      let d = store-device layout s state c o parts old h in
+      let g = by_name now parts dev.logical in
+      let next = apply (Resize name size) dev in
+      let lists : map (units_owned now) parts ≡ map (λ p. g p.name) next.logical =
+      sym (map-same (logical_changed name (cut_or_padded (round_up size))) (λ p. g p.name) (λ p. refl) dev.logical ∙ by-names now parts dev.logical (store-many layout s state c o parts old h) d.units.names) in
+      let entries = (resize-table layout s state c o now parts old name part size h at e one room).entries in
+      puts-lie layout s state (table_for s next (map (units_owned now) parts)) old new name g len bytes next.logical h.part
+      (subst (AreEntriesOf s (table_for s next (map (units_owned now) parts)) (table_for s next (map (units_owned now) parts)).partitions next.logical) lists entries) put
+
+  resize-back : AllByRecursion (λ p. (p.name ≡ name → IsPut s (super_bytes layout s old) (super_bytes layout s new) (by_name now parts (device_in layout state c old).logical) name (λ b. written b len bytes)
+      (record p { bytes = cut_or_padded (round_up size) p.bytes })) × (p.name ≢ name → IsPut s (super_bytes layout s old) (super_bytes layout s new) (by_name now parts (device_in layout state c old).logical) name (λ b. written b len bytes) p))
+      (device_in layout state c old).logical
+  resize-back =
+      changed-back (IsPut s (super_bytes layout s old) (super_bytes layout s new) (by_name now parts (device_in layout state c old).logical) name (λ b. written b len bytes))
+      name (cut_or_padded (round_up size)) (device_in layout state c old).logical resize-puts
+
+  -- the bytes of the units that the partition is to have
+  resize-own : take (round_up size) (units_bytes s (super_bytes layout s new) (units_owned now part)) ≡ written (take (round_up size) (units_bytes s (super_bytes layout s old) (units_owned now part))) len bytes
+  resize-own =
+      let dev = device_in layout state c old in
+      let g = by_name now parts dev.logical in
+      let own : g name ≡ units_owned now part = by-place now parts dev.logical name (store-many layout s state c o parts old h) ∙ ap (units_by (Some now)) at in
+      subst (λ l. take (round_up size) (units_bytes s (super_bytes layout s new) l) ≡ written (take (round_up size) (units_bytes s (super_bytes layout s old) l)) len bytes) own
+      (own-of (take (round_up size) (units_bytes s (super_bytes layout s new) (g name)) ≡ written (take (round_up size) (units_bytes s (super_bytes layout s old) (g name))) len bytes) name dev.logical
+      (own-resized s (super_bytes layout s old) (super_bytes layout s new) g name (λ b. written b len bytes) (round_up size) dev.logical resize-back) there)
+
+  resize-long : round_up size ≤ length (units_bytes s (super_bytes layout s old) (units_owned now part))
+  resize-long =
+      let dev = device_in layout state c old in
+      let d = store-device layout s state c o parts old h in
+      let many = store-many layout s state c o parts old h in
+      let own : by_name now parts dev.logical name ≡ units_owned now part = by-place now parts dev.logical name many ∙ ap (units_by (Some now)) at in
+      let m = resize-map layout s state c o now parts old name part size h at e one room in
+      let four = d.bounded.unit in
+      let pos : 0 < s.unit = omega arith in
+      holds-all s (super_bytes layout s old) (units_owned now part) (units_for s.unit (round_up size)) (round_up size) d.long pos
+      (subst (λ l. list_all (λ u. nat_lt u (unit_count s)) l ≡ true) own (below-of now parts dev.logical name (unit_count s) many one m.units))
+      (sym (ap length own) ∙ resized-many layout s state c o now parts old name part size h at e one room) refl
+
+  -- the old partitions, and the bytes before the place
+  pub resize-touched : len + length bytes ≤ round_up size → IsTouched layout s (by_name o parts (device_in layout state c old).logical) (device_in layout state c old).logical name (units_owned now part) len old new
+  resize-touched fits =
+      let dev = device_in layout state c old in
+      let d = store-device layout s state c o parts old h in
+      let f = by_name o parts dev.logical in
+      let g = by_name now parts dev.logical in
+      let next = apply (Resize name size) dev in
+      let table = table_for s next (map (units_owned now) parts) in
+      record {
+        same_length = same;
+        physical = puts-physical layout state table old new name len bytes (physical-apart layout state c old name d.valid (sym (any-map (λ p. p.name) name dev.logical) ∙ there)) put;
+        others = lies-resized s (super_bytes layout s old) (super_bytes layout s new) f g name (λ b. written b len bytes)
+            (resized-one layout s state c o now parts old name part size h at e one room).others (cut_or_padded (round_up size)) dev.logical d.units.lies resize-back;
+        kept = own-kept (round_up size) len bytes (units_bytes s (super_bytes layout s old) (units_owned now part)) (units_bytes s (super_bytes layout s new) (units_owned now part)) fits resize-long resize-own;
+      }
+
+  pub resize-filled : len + length bytes ≡ round_up size → bytes ≡ zeros (round_up size - len) →
+      IsFilled layout s (by_name o parts (device_in layout state c old).logical) (device_in layout state c old).logical name (units_owned now part) len (round_up size) old new
+  resize-filled whole are = record {
+    touched = resize-touched (omega arith);
+    padded = own-padded (round_up size) len bytes (units_bytes s (super_bytes layout s old) (units_owned now part)) (units_bytes s (super_bytes layout s new) (units_owned now part)) whole resize-long resize-own ∙ are;
+  }
+
+-- what is so of the last
+last-of : (P : Logical → Type 0) (ps : List Logical) (q : Logical) → AllByRecursion P (ps ++ q ∷ []) → P q
+last-of P [] q h = h.0
+last-of P (p ∷ ps) q h = last-of P ps q h.1
+
+-- no physical partition has a name that none has
+named-none : (layout : LayoutValue) (state : State) (c : Content) (file name : List ℕ) → is_physical (device_in layout state c file) name ≡ false → among name (map (λ p. p.name) (physical_at 12288 layout.physical file)) ≡ false
+named-none layout state c file name h =
+    ap (λ (qs : List Physical). among name (map (λ p. p.name) qs)) (sym (physical-in layout state c file))
+    ∙ (sym (any-map (λ p. p.name) name (device_in layout state c file).physical) ∙ h)
+
+-- The same of a new partition.
+module _ (layout : LayoutValue) (s : SuperPart) (state : State) (c : Content) (o now : Owning) (parts old name : List ℕ) (part count size : ℕ) (h : IsStoreSuper layout s state c o parts old)
+    (free : list_any (λ p. p == part) parts ≡ false) (inside : part < 128) (e : now ≡ handed o part (take count (free_units o)))
+    (fresh : not (among name (map (λ p. p.name) (device_in layout state c old).logical)) ≡ true) (unnamed-physical : is_physical (device_in layout state c old) name ≡ false)
+    (one : OneOwner now) (needs : count ≡ units_for s.unit (round_up size)) (room : count ≤ length (free_units o)) (group : is_group (device_in layout state c old).groups (codes "default") ≡ true)
+    (new : List ℕ) (bytes : List ℕ) (same : length new ≡ length old)
+    (put : device_in layout state (table_for s (created name size (device_in layout state c old)) (map (units_owned now) (parts ++ part ∷ []))) new
+      ≡ put_at name 0 bytes (device_in layout state (table_for s (created name size (device_in layout state c old)) (map (units_owned now) (parts ++ part ∷ []))) old)) where
+
+  create-puts : AllByRecursion (IsPut s (super_bytes layout s old) (super_bytes layout s new) (by_name now (parts ++ part ∷ []) ((device_in layout state c old).logical ++ new_logical name size ∷ [])) name (λ b. written b 0 bytes))
+      ((device_in layout state c old).logical ++ new_logical name size ∷ [])
+  create-puts =
+      let dev = device_in layout state c old in
+      let g = by_name now (parts ++ part ∷ []) (dev.logical ++ new_logical name size ∷ []) in
+      let next = created name size dev in
+      let lists = create-lists layout s state c o now parts old name part count size h free inside e fresh in
+      let entries = (create-table layout s state c o now parts old name part count size h free inside e fresh needs room group).entries in
+      puts-lie layout s state (table_for s next (map (units_owned now) (parts ++ part ∷ []))) old new name g 0 bytes next.logical h.part
+      (subst (AreEntriesOf s (table_for s next (map (units_owned now) (parts ++ part ∷ []))) (table_for s next (map (units_owned now) (parts ++ part ∷ []))).partitions next.logical) (sym lists) entries) put
+
+  create-own : take (round_up size) (units_bytes s (super_bytes layout s new) (units_owned now part)) ≡ written (take (round_up size) (units_bytes s (super_bytes layout s old) (units_owned now part))) 0 bytes
+  create-own =
+      let dev = device_in layout state c old in
+      let g = by_name now (parts ++ part ∷ []) (dev.logical ++ new_logical name size ∷ []) in
+      subst (λ l. take (round_up size) (units_bytes s (super_bytes layout s new) l) ≡ written (take (round_up size) (units_bytes s (super_bytes layout s old) l)) 0 bytes)
+      (create-units layout s state c o now parts old name part count size h free inside e fresh)
+      (own-put s (super_bytes layout s old) (super_bytes layout s new) g name (λ b. written b 0 bytes) (round_up size) (new_logical name size) (length-replicate (round_up size) 0)
+      (last-of (IsPut s (super_bytes layout s old) (super_bytes layout s new) g name (λ b. written b 0 bytes)) dev.logical (new_logical name size) create-puts) refl)
+
+  create-long : round_up size ≤ length (units_bytes s (super_bytes layout s old) (units_owned now part))
+  create-long =
+      let dev = device_in layout state c old in
+      let d = store-device layout s state c o parts old h in
+      let all = many-more parts dev.logical part (new_logical name size) (store-many layout s state c o parts old h) in
+      let own = create-units layout s state c o now parts old name part count size h free inside e fresh in
+      let m = create-map layout s state c o now parts old name part count size h free inside e fresh needs room group in
+      let is = now-own layout s state c o now parts old name part count size h free inside e fresh in
+      let four = d.bounded.unit in
+      let pos : 0 < s.unit = omega arith in
+      holds-all s (super_bytes layout s old) (units_owned now part) count (round_up size) d.long pos
+      (subst (λ l. list_all (λ u. nat_lt u (unit_count s)) l ≡ true) own (below-of now (parts ++ part ∷ []) (dev.logical ++ new_logical name size ∷ []) name (unit_count s) all one m.units))
+      (ap length is ∙ length-take-le count (free_units o) room) needs
+
+  pub create-touched : length bytes ≤ round_up size → IsTouched layout s (by_name o parts (device_in layout state c old).logical) (device_in layout state c old).logical name (units_owned now part) 0 old new
+  create-touched fits =
+      let dev = device_in layout state c old in
+      let d = store-device layout s state c o parts old h in
+      let f = by_name o parts dev.logical in
+      let g = by_name now (parts ++ part ∷ []) (dev.logical ++ new_logical name size ∷ []) in
+      let table = table_for s (created name size dev) (map (units_owned now) (parts ++ part ∷ [])) in
+      record {
+        same_length = same;
+        physical = puts-physical layout state table old new name 0 bytes (named-none layout state c old name unnamed-physical) put;
+        others = lies-created s (super_bytes layout s old) (super_bytes layout s new) f g name (λ b. written b 0 bytes)
+            (create-others layout s state c o now parts old name part count size h free inside e fresh) dev.logical (new_logical name size) d.units.lies create-puts;
+        kept = refl;
+      }
+
+  pub create-filled : bytes ≡ zeros (round_up size) → IsFilled layout s (by_name o parts (device_in layout state c old).logical) (device_in layout state c old).logical name (units_owned now part) 0 (round_up size) old new
+  create-filled are =
+      let n : length bytes ≡ round_up size = ap length are ∙ zeros-long (round_up size) in
+      let z : round_up size ≡ round_up size - 0 = omega arith in
+      record {
+        touched = create-touched (omega (arith, n));
+        padded = own-padded (round_up size) 0 bytes (units_bytes s (super_bytes layout s old) (units_owned now part)) (units_bytes s (super_bytes layout s new) (units_owned now part)) (omega (arith, n)) create-long create-own
+            ∙ (are ∙ ap zeros z);
+      }

@@ -189,10 +189,13 @@ module _ (layout : LayoutValue) (s : SuperPart) (state : State) (c : Content) (o
     (at : slice_get parts (position_or_len (at-name name) (device_in layout state c old).logical) ≡ Some part) (e : now ≡ regrown o part (units_for s.unit (round_up size))) (one : OneOwner now)
     (room : units_for s.unit (round_up size) ≤ length (units_of o part) + length (free_units o)) where
 
-  resized-one : IsOneChanged o now parts (device_in layout state c old).logical name (regrown-list o part (units_for s.unit (round_up size)))
+  pub resized-one : IsOneChanged o now parts (device_in layout state c old).logical name (regrown-list o part (units_for s.unit (round_up size)))
   resized-one =
       one-changed o now parts (device_in layout state c old).logical name (regrown-list o part (units_for s.unit (round_up size))) part (store-many layout s state c o parts old h) h.mapped.apart at
       (part-inside s c o parts (position_or_len (at-name name) (device_in layout state c old).logical) part h.mapped at) e one
+
+  pub resized-many : length (by_name now parts (device_in layout state c old).logical name) ≡ units_for s.unit (round_up size)
+  resized-many = ap length resized-one.own ∙ grown-many (units_of o part) (free_units o) (units_for s.unit (round_up size)) room
 
   -- the map of units and the table that is written, whatever the bytes are
   pub resize-table : IsTableOf s (apply (Resize name size) (device_in layout state c old)) (map (units_of now) parts)
@@ -204,7 +207,7 @@ module _ (layout : LayoutValue) (s : SuperPart) (state : State) (c : Content) (o
       let ch = resized-one in
       table-of-lists s g (apply (Resize name size) dev) (map (units_of now) parts) d.bounded
       (fits-after s.unit (by_name o parts dev.logical) g name count (round_up size) refl (eq-is (round_up size % 4096) 0 (whole-round size))
-      (ap length ch.own ∙ grown-many (units_of o part) (free_units o) count room) ch.others dev.logical d.units.fits)
+      resized-many ch.others dev.logical d.units.fits)
       (all-same (logical_changed name (cut_or_padded (round_up size))) (λ p. is_group dev.groups p.group) (λ p. refl) dev.logical ∙ d.units.groups)
       (map-same (logical_changed name (cut_or_padded (round_up size))) (λ p. g p.name) (λ p. refl) dev.logical ∙ by-names now parts dev.logical (store-many layout s state c o parts old h) d.units.names)
 
