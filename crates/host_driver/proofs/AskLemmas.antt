@@ -187,7 +187,7 @@ map-lines : (xs ys : List Reply) → map shown_line (xs ++ ys) ≡ map shown_lin
 map-lines [] ys = refl
 map-lines (x ∷ xs) ys = ap (λ t. shown_line x ∷ t) (map-lines xs ys)
 
-joined-append : (xs ys : List (List ℕ)) → joined (xs ++ ys) ≡ joined xs ++ joined ys
+pub joined-append : (xs ys : List (List ℕ)) → joined (xs ++ ys) ≡ joined xs ++ joined ys
 joined-append [] ys = refl
 joined-append (x ∷ xs) ys = ap (λ t. x ++ t) (joined-append xs ys) ∙ sym (append_assoc x (joined xs) (joined ys))
 

@@ -14,3 +14,4 @@ pub mod Excluded
 pub mod Asking
 pub mod Puts
 pub mod Beginning
+pub mod Attempting

@@ -1,6 +1,7 @@
 //! Runs the plan of a product over a link, and tells what became of it.
 #![tactic(auto)]
 
+ghost use Rattle.host_driver.specs.Attempting.{LeftAfter};
 ghost use Rattle.host_driver.specs.Commands.{Decisions};
 ghost use Rattle.host_driver.specs.Completing.{Completes, RefusesExactly};
 ghost use Rattle.host_driver.specs.Excluded.{Excluded};
@@ -26,4 +27,5 @@ pub fn laws()
     ensures refuses_exactly { RefusesExactly }
     ensures decisions { Decisions }
     ensures excluded { Excluded }
+    ensures left_after { LeftAfter }
 {}
