@@ -14,7 +14,7 @@ mod lines;
 pub mod link_out;
 pub mod load_piece;
 pub mod log_port;
-mod put;
+pub mod put;
 mod put_piece;
 pub mod send_piece;
 mod step;

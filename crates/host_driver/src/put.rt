@@ -20,7 +20,7 @@ use sparse_image::source::Bytes;
 
 /// Puts the image of this file over the partition, in pieces of at most `most` bytes.
 #[tactic(auto, using(crate::proofs::PutLemmas::puts))]
-pub(crate) fn put<P: Port, B: Bytes, S: Sink>(
+pub fn put<P: Port, B: Bytes, S: Sink>(
     ready: Ready<P>,
     name: &Name,
     index: &Index,

@@ -1,0 +1,5 @@
+//! Cases of installations over a link: what is sent, and what comes of it.
+#![tactic(auto)]
+
+#[cfg(test)]
+mod link_outs;
