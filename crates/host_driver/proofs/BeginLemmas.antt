@@ -1,19 +1,22 @@
 -- A connection that began, and one that didn't.
-use Rattle.std.proofs.Common.{◌≡◌, inl, ℕ, ◌-◌, ◌^◌, Bool, true, false, Option, Some, None, List, [], ◌++◌, length, refl, sym, ap, ◌∙◌, subst, append-nil}
+use Rattle.std.proofs.Common.{◌≡◌, inl, inr, ℕ, ◌-◌, ◌^◌, Bool, true, false, Option, Some, None, List, [], ◌++◌, length, refl, sym, ap, ◌∙◌, subst, arith, append-nil}
 use Rattle.std.specs.Prelude.{IfSome}
 use Rattle.fb_frame.specs.Greeting.{handshake}
+use Rattle.dev_model.specs.declared.device.Dev.{Dev}
 use Rattle.dev_model.specs.Partitions.{is_fastboot}
 use Rattle.wire_model.specs.Wire.{Wire}
 use Rattle.wire_told.specs.Exchanges.{FreeFor}
 use Rattle.wire_told.specs.Peers.{Peer, Apart, Joined, device_of}
 use Rattle.wire_told.specs.Places.{Appended}
-use Rattle.wire_told.specs.Ports.{PortTold, OpensAt}
+use Rattle.wire_told.specs.Ports.{PortTold, OpensAt, Drops}
+use Rattle.wire_told.proofs.PortLemmas.{Kept-trans}
 use Rattle.wire_told.specs.Told.{HungUp, IsBarred}
 use Rattle.wire_told.proofs.ExchangeLemmas.{FreeFor-opened}
 use Rattle.fb_link.specs.Opened.{HeardAlone, IsOpened, IsUnopened, WhyUnopened, HeardUnopened}
 use Rattle.fb_link.specs.declared.link_error.LinkError.{LinkError}
 use Rattle.fb_link.specs.declared.link_error.LinkError.TheVariants as link
 use Rattle.host_driver.specs.declared.drive.DriveError.{DriveError}
+use Rattle.host_driver.specs.declared.drive.DriveError.TheVariants as stop
 use Rattle.host_driver.specs.Beginning.{IsBegun, WhyUnbegun, IsUnbegun}
 use Rattle.host_driver.specs.HeardLast.{HeardThen, HeardAt}
 use Rattle.host_driver.specs.Jobs.{OfTold}
@@ -100,3 +103,57 @@ unbegun-unopened e error a b same n o = subst (IsUnbegun a b) (sym same) (record
   sound = o.sound;
   kept = o.kept;
 })
+
+-- A connection in place of one that was given up.
+hung-begun : (a b c : Option Peer) → HungUp a b → OfTold b c (λ s t. t ≡ s) → OfTold a c (λ s t. t ≡ s)
+hung-begun None None None h r = tt
+hung-begun None None (Some z) h r = absurd r
+hung-begun None (Some y) c h r = absurd h
+hung-begun (Some x) None c h r = absurd h
+hung-begun (Some x) (Some (Joined w)) c h r = absurd h
+hung-begun (Some x) (Some (Apart dev)) None h r = absurd r
+hung-begun (Some x) (Some (Apart dev)) (Some z) h r = r ∙ h
+
+pub begun-again : (a b c : PortTold) → Drops a b → IsBegun b c → IsBegun a c
+begun-again a b c d g = record {
+  same = hung-begun a.peer b.peer c.peer d.left g.same;
+  serving = g.serving;
+  heard = g.heard;
+  log = subst (λ o. LogGrew o c.log (λ bytes. bytes ≡ handshake 1)) d.log g.log;
+  kept = Kept-trans a b c d.kept g.kept;
+}
+
+barred-hung : (a b : Option Peer) → HungUp a b → IsBarred b → IsBarred a
+barred-hung None None h r = r
+barred-hung None (Some y) h r = absurd h
+barred-hung (Some x) None h r = absurd h
+barred-hung (Some x) (Some (Joined w)) h r = absurd h
+barred-hung (Some x) (Some (Apart dev)) h r = ap (λ (d : Dev). is_fastboot d.mode) (sym h) ∙ r
+
+untold-hung : (a b : Option Peer) → HungUp a b → b ≡ None → a ≡ None
+untold-hung None b h e = refl
+untold-hung (Some x) None h e = absurd h
+untold-hung (Some x) (Some y) h e = absurd cc
+
+why-again : (error : DriveError) (a b c : PortTold) → Drops a b → WhyUnbegun b c error → WhyUnbegun a c error
+why-again stop.Memory a b c d w = w
+why-again (stop.Directory file) a b c d w = w
+why-again stop.Output a b c d w = w
+why-again stop.Link a b c d (inl r) = inl (omega (arith, r, d.kept.later))
+why-again stop.Link a b c d (inr r) = inr (barred-hung a.peer b.peer d.left r)
+why-again stop.Ended a b c d w = (untold-hung a.peer b.peer d.left w.0, (let r = w.1 in omega (arith, r, d.kept.no_fewer)))
+why-again (stop.Refused text) a b c d w = w
+why-again (stop.Peer kept) a b c d w = untold-hung a.peer b.peer d.left w
+why-again stop.TooManyInfos a b c d w = w
+why-again (stop.Requirement line name value) a b c d w = w
+why-again (stop.Plan line kind) a b c d w = w
+
+pub unbegun-again : (a b c : PortTold) (error : DriveError) → Drops a b → IsUnbegun b c error → IsUnbegun a c error
+unbegun-again a b c error d g = record {
+  why = why-again error a b c d g.why;
+  still = hung-begun a.peer b.peer c.peer d.left g.still;
+  heard = g.heard;
+  down = g.down;
+  sound = g.sound;
+  kept = Kept-trans a b c d.kept g.kept;
+}

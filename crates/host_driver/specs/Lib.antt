@@ -15,3 +15,4 @@ pub mod Asking
 pub mod Puts
 pub mod Beginning
 pub mod Attempting
+pub mod Leaving

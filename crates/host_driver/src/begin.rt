@@ -41,3 +41,14 @@ pub(crate) fn begin<P: Port>(link: Lost<P>) -> Result<Ready<P>, (Lost<P>, DriveE
         }
     }
 }
+
+/// Begins another connection in place of this one.
+pub(crate) fn renew<P: Port>(ready: Ready<P>) -> Result<Ready<P>, (Lost<P>, DriveError)>
+    requires aimed { IsTrue (P.told ready).aimed }
+    ensures same { IfOk result (λ r. P.lent r ≡ P.lent ready) }
+    ensures same_lost { IfErr result (λ e. P.lent e.0 ≡ P.lent ready) }
+    ensures begun { IfOk result (λ r. IsBegun (P.told ready) (P.told r)) }
+    ensures unbegun { IfErr result (λ e. IsUnbegun (P.told ready) (P.told e.0) e.1) }
+{
+    begin(ready.hang_up())
+}

@@ -2,6 +2,7 @@
 #![tactic(auto)]
 
 ghost use Rattle.host_driver.specs.Attempting.{LeftAfter};
+ghost use Rattle.host_driver.specs.Leaving.{LeavesMore, LeavesUnmet, LeavesBefore, LeavesUnplanned};
 ghost use Rattle.host_driver.specs.Commands.{Decisions};
 ghost use Rattle.host_driver.specs.Completing.{Completes, RefusesExactly};
 ghost use Rattle.host_driver.specs.Excluded.{Excluded};
@@ -27,5 +28,13 @@ pub fn laws()
     ensures refuses_exactly { RefusesExactly }
     ensures decisions { Decisions }
     ensures excluded { Excluded }
+{}
+
+/// What attempts leave, step by step and one after another.
+pub fn attempt_laws()
     ensures left_after { LeftAfter }
+    ensures leaves_more { LeavesMore }
+    ensures leaves_unmet { LeavesUnmet }
+    ensures leaves_before { LeavesBefore }
+    ensures leaves_unplanned { LeavesUnplanned }
 {}
