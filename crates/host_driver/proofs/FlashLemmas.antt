@@ -1,10 +1,10 @@
 -- A flash of what was loaded.
-use Rattle.std.proofs.Common.{◌≡◌, ◌≢◌, ◌⊎◌, inl, inr, ℕ, ◌+◌, ◌≤◌, Bool, true, false, List, [], ◌∷◌, ◌++◌, length, length-append, Option, Some, None, refl, sym, ap, ◌∙◌, subst, arith}
-use Rattle.std.specs.Prelude.{not, is_none, is_some, unwrap_or, option_and_then, codes, IfSome, IsTrue, IsFalse}
+use Rattle.std.proofs.Common.{◌≡◌, ◌≢◌, ◌⊎◌, inl, inr, ℕ, ◌+◌, Bool, true, false, List, [], ◌∷◌, ◌++◌, Option, Some, None, refl, sym, ap, ◌∙◌, subst, arith}
+use Rattle.std.specs.Prelude.{not, is_none, option_and_then, codes}
 use Rattle.std.specs.Option.{option_or}
 use Rattle.fb_frame.specs.Causes.{Rose}
 use Rattle.fb_frame.specs.Framing.{frame}
-use Rattle.fb_frame.specs.Sinks.{Grew, GrewPart}
+use Rattle.fb_frame.specs.Sinks.{Grew}
 use Rattle.fb_frame.specs.NameText.{IsName}
 use Rattle.fb_message.specs.Prefixes.{only_if}
 use Rattle.fb_message.specs.CommandText.{Flash, spelling}
@@ -16,7 +16,6 @@ use Rattle.std.specs.List.{list_all}
 use Rattle.dev_model.proofs.Valid.{both}
 use Rattle.dev_model.specs.declared.cells.Cell.{Cell}
 use Rattle.dev_model.specs.declared.device.Dev.{Dev}
-use Rattle.dev_model.specs.declared.device.Mode.TheVariants.{Halted}
 use Rattle.dev_model.specs.declared.step.Step.TheVariants.{Put}
 use Rattle.dev_model.specs.Images.{image}
 use Rattle.dev_model.specs.Options.{first_passed}
@@ -48,10 +47,8 @@ use Rattle.host_driver.specs.declared.drive.DriveError.TheVariants as stop
 use Rattle.host_driver.specs.Commands.{TookStep, RefusedStep}
 use Rattle.host_driver.specs.Driven.{IsHaltedNow}
 use Rattle.host_driver.specs.HeardLast.{HeardThen}
-use Rattle.host_driver.specs.PutPieces.{GoesOn}
 use Rattle.host_driver.specs.Puts.{HasFlashed, IsFlashLeft, IsFlashStuck, FlashFails}
-use Rattle.host_driver.specs.Stepping.{IsServing, Serving, WhyStopped, stop_of}
-use Rattle.host_driver.specs.Wires.{command_wire}
+use Rattle.host_driver.specs.Stepping.{IsServing, Serving, stop_of}
 use Rattle.host_driver.proofs.HaltLemmas.{flash-short, under-over}
 use Rattle.host_driver.proofs.LoadLemmas.{quiet-none, quiet-part, Passes-all}
 use Rattle.host_driver.proofs.StepLemmas.{decides-okay, decides-fail, took, decisions}

@@ -1,14 +1,12 @@
 -- Pieces of an image that are put over a partition one after another: its front up to the last of them.
-use Rattle.std.proofs.Common.{◌≡◌, ℕ, zero, suc, ◌+◌, ◌*◌, ◌<◌, ◌≤◌, Bool, true, false, List, [], ◌∷◌, ◌++◌, map, length, length-append, take, replicate, Option, Some, None, refl, sym, ap, ◌∙◌, subst, arith}
-use Rattle.std.specs.Prelude.{Result, Ok, is_none, unwrap_or, bytes_eq, nat_lt, codes, if◌then◌else◌}
+use Rattle.std.proofs.Common.{◌≡◌, ℕ, zero, suc, ◌*◌, ◌≤◌, Bool, true, false, List, [], ◌∷◌, ◌++◌, map, length, length-append, take, replicate, refl, sym, ap, ◌∙◌, arith}
+use Rattle.std.specs.Prelude.{Ok, unwrap_or, bytes_eq, nat_lt, codes, if◌then◌else◌}
 use Rattle.std.specs.Option.{option_or}
 use Rattle.std.proofs.lemmas.List.{take_all, length-replicate}
 use Rattle.std.proofs.Math.Seq.{take-append_seam}
 use Rattle.dev_model.specs.declared.cells.Cell.{Cell}
 use Rattle.dev_model.specs.declared.cells.Cell.TheVariants.{Byte, Skip}
 use Rattle.dev_model.specs.declared.device.Dev.{Dev}
-use Rattle.dev_model.specs.declared.device.Physical.{Physical}
-use Rattle.dev_model.specs.declared.device.Logical.{Logical}
 use Rattle.dev_model.specs.declared.step.Step.TheVariants.{Put}
 use Rattle.dev_model.specs.Images.{over}
 use Rattle.dev_model.specs.Options.{first_passed}
@@ -16,7 +14,6 @@ use Rattle.dev_model.specs.Partitions.{bytes_of, with_bytes, physical_changed, l
 use Rattle.dev_model.specs.Refusals.{erase_refusal, refusal_of}
 use Rattle.dev_model.specs.Steps.{apply}
 use Rattle.dev_model.proofs.KeepingLemmas.{writes_twice, writes-alike, put_refused_again}
-use Rattle.dev_model.proofs.OverLemmas.{over-nil}
 use Rattle.sparse_image.specs.Pieces.{piece_cells}
 use Rattle.sparse_image.specs.Walks.{Kept, checked, kept_cells}
 use Rattle.sparse_image.proofs.PieceLemmas.{pieces-front}

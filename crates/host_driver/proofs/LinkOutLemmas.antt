@@ -8,7 +8,7 @@ use Rattle.fb_frame.specs.Framing.{frame}
 use Rattle.wire_model.specs.Wire.{Wire}
 use Rattle.wire_told.specs.Answered.{Downloading, Sound, IsSending as IsSendingWire, IsWritten, Wrote, got_of}
 use Rattle.wire_told.specs.Peers.{Peer, Apart, Joined, OnLink}
-use Rattle.wire_told.specs.Ports.{PortTold, Kept, Sends, SendFails, Drops}
+use Rattle.wire_told.specs.Ports.{PortTold, Sends, SendFails, Drops}
 use Rattle.wire_told.specs.Told.{HungUp}
 use Rattle.wire_told.proofs.KeptLemmas.{Appended-append, Appended-nothing}
 use Rattle.wire_told.proofs.Lifted.{of-stays, on-then, kept-hung}
@@ -17,7 +17,7 @@ use Rattle.fb_link.proofs.TypedLemmas.{Sound-sending, Sound-hung}
 use Rattle.sparse_image.specs.Outside.{Grew, GrewInPart, HasRoom, Fell}
 use Rattle.sparse_image.proofs.WriteLemmas.{grew-none, grew-then, fell-none, fell-then, room-left}
 use Rattle.host_driver.specs.Wires.{full_frames, last_frame, data_wire}
-use Rattle.host_driver.specs.LinkOuts.{IsTaken, IsSent, SendsFrames, IsSending, HasGivenUp, HasFailed, data_by, SendsAll}
+use Rattle.host_driver.specs.LinkOuts.{IsTaken, IsSent, IsSending, HasGivenUp, HasFailed, data_by, SendsAll}
 
 -- Frames of 65,536 bytes, and one more.
 frames-append : (k : ℕ) (x r : List ℕ) → length x ≡ 65536 * k → full_frames k (x ++ r) ≡ full_frames k x

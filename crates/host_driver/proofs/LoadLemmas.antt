@@ -1,5 +1,5 @@
 -- A download of a piece, from its command to its end.
-use Rattle.std.proofs.Common.{◌≡◌, ◌⊎◌, inl, inr, ℕ, ◌≢◌, ◌+◌, ◌-◌, ◌^◌, ◌<◌, ◌≤◌, Bool, true, false, List, [], ◌∷◌, ◌++◌, length, length-append, Option, Some, None, refl, sym, ap, ◌∙◌, subst, arith}
+use Rattle.std.proofs.Common.{◌≡◌, inl, inr, ℕ, ◌≢◌, ◌+◌, ◌^◌, ◌<◌, ◌≤◌, Bool, true, false, List, [], ◌∷◌, ◌++◌, length, length-append, Option, Some, None, refl, sym, ap, ◌∙◌, subst, arith}
 use Rattle.std.specs.Prelude.{codes, ◌&&◌, nat_lt, ◌==◌, if◌then◌else◌, unwrap_or, IsTrue}
 use Rattle.std.specs.List.{list_all}
 use Rattle.std.proofs.lemmas.Bool.Decides.{nat_tests}
@@ -13,7 +13,7 @@ use Rattle.fb_frame.specs.Causes.{Rose}
 use Rattle.fb_frame.specs.Framing.{frame, head}
 use Rattle.fb_message.specs.CommandText.{CommandValue, Download, spelling}
 use Rattle.fb_message.specs.declared.reply.Reply.{Reply}
-use Rattle.fb_message.specs.declared.reply.Reply.TheVariants.{Okay, Fail, Info, Text, Load}
+use Rattle.fb_message.specs.declared.reply.Reply.TheVariants.{Okay, Fail, Load}
 use Rattle.dev_model.specs.declared.device.Dev.{Dev}
 use Rattle.fb_frame.specs.Numbers.{hex8}
 use Rattle.fb_frame.specs.Sinks.{Grew, GrewPart}
@@ -24,15 +24,15 @@ use Rattle.dev_model.proofs.Valid.{both}
 use Rattle.dev_model.specs.Refusals.{download_refusal}
 use Rattle.wire_model.specs.Says.{Loaded, says, awaits}
 use Rattle.wire_model.specs.Wire.{Wire}
-use Rattle.wire_told.specs.Answered.{IsSending as IsSendingWire, Downloading, Unbegun, Loads, got_of, is_line, ends_well, reply_frames, IsVerdict, Sound, IsFree, Free, IsAnswered}
-use Rattle.wire_told.specs.Exchanges.{said_to, IsExchanged, Exchanged, EndsIn, IsInterrupted}
+use Rattle.wire_told.specs.Answered.{IsSending as IsSendingWire, Downloading, Unbegun, Loads, got_of, is_line, ends_well, reply_frames, Sound, IsFree, Free, IsAnswered}
+use Rattle.wire_told.specs.Exchanges.{said_to, IsExchanged, Exchanged, IsInterrupted}
 use Rattle.wire_told.specs.Peers.{Peer, Apart, Joined, OfLink, OnLink, OffLink}
 use Rattle.wire_told.specs.Places.{Appended}
 use Rattle.wire_told.specs.Ports.{PortTold, Kept, Drops}
 use Rattle.wire_told.specs.Told.{Heard, HungUp}
 use Rattle.wire_told.specs.Turns.{CommandTest}
 use Rattle.wire_told.proofs.KeptLemmas.{Appended-append}
-use Rattle.wire_told.proofs.Lifted.{of-of, of-both, of-on, on-on, on-then, kept-hung}
+use Rattle.wire_told.proofs.Lifted.{of-of, of-both, on-on, on-then, kept-hung}
 use Rattle.wire_told.proofs.ExchangeLemmas.{said-open}
 use Rattle.wire_told.proofs.PortLemmas.{Kept-trans}
 use Rattle.wire_told.proofs.StateLemmas.{finished, suits-load, announces-download}
@@ -43,7 +43,6 @@ use Rattle.fb_link.specs.declared.link_error.LinkError.TheVariants as link
 use Rattle.fb_link.specs.Broken.{BrokeOff, ShownInPart, SaysFirst, GivesNone}
 use Rattle.fb_link.specs.Lines.{shown_lines}
 use Rattle.fb_link.specs.Errors.{Why}
-use Rattle.fb_link.proofs.BrokenLemmas.{Why-behind, Why-weaker}
 use Rattle.fb_link.proofs.EndLemmas.{frames-snoc}
 use Rattle.fb_link.proofs.TypedLemmas.{Exchanged-concluded}
 use Rattle.sparse_image.specs.Cuts.{Part, part_len}
@@ -51,7 +50,7 @@ use Rattle.host_driver.specs.LinkOuts.{IsTaken, HasGivenUp}
 use Rattle.host_driver.specs.declared.drive.DriveError.{DriveError}
 use Rattle.host_driver.specs.declared.drive.DriveError.TheVariants as stop
 use Rattle.host_driver.specs.HeardLast.{HeardThen, HeardAt}
-use Rattle.host_driver.specs.PutPieces.{ArePart, SendsPart, IsPartSent, HasBegun, HasEnded, HeardLoad, Unrefused, IsUnloaded, IsUnread, GoesOn, IsLoadedBy, LoadsPart, IsPartLoaded}
+use Rattle.host_driver.specs.PutPieces.{ArePart, IsPartSent, HasBegun, HasEnded, HeardLoad, Unrefused, IsUnloaded, IsUnread, GoesOn, IsLoadedBy, IsPartLoaded}
 use Rattle.host_driver.specs.Stepping.{TakesAll, NoFiles, stop_of, WhyStopped}
 use Rattle.host_driver.proofs.TakeLemmas.{heard-more, heard-again, heard-broken, why-broken, grows-part}
 use Rattle.host_driver.specs.Wires.{command_wire, data_wire, download_wire, LogGrew}

@@ -1,17 +1,16 @@
 -- What a download of a piece and its flash leave.
-use Rattle.std.proofs.Common.{◌≡◌, ℕ, ◌+◌, ◌-◌, ◌≤◌, Bool, true, false, List, [], ◌++◌, length, drop, Option, Some, None, refl, sym, ap, ◌∙◌, subst, arith}
+use Rattle.std.proofs.Common.{◌≡◌, ℕ, ◌-◌, Bool, true, false, List, [], ◌++◌, length, drop, Option, Some, None, refl, sym, ap, ◌∙◌, subst, arith}
 use Rattle.std.specs.Prelude.{IfSome}
 use Rattle.std.proofs.lemmas.List.{append-nil}
 use Rattle.std.proofs.Math.Seq.{drop-length}
 use Rattle.sparse_image.specs.Cuts.{Part, part_len, part_bytes, PutsPart, HasPartImage}
-use Rattle.sparse_image.specs.Outside.{Fell, Grew}
+use Rattle.sparse_image.specs.Outside.{Fell}
 use Rattle.wire_told.specs.Peers.{Peer, Apart, Joined, OfLink, OnLink}
 use Rattle.wire_told.specs.Answered.{got_of}
 use Rattle.wire_told.specs.Ports.{PortTold}
-use Rattle.host_driver.specs.LinkOuts.{IsTaken, IsSent, IsSending, data_by, room_by, SendsAll}
+use Rattle.host_driver.specs.LinkOuts.{IsTaken, IsSending, data_by, room_by, SendsAll}
 use Rattle.host_driver.proofs.LinkOutLemmas.{GivenUp-failed, Sending-begun}
-use Rattle.host_driver.proofs.FrontLemmas.{refused-front}
-use Rattle.host_driver.specs.PutPieces.{ArePart, SendsPart, IsPartSent}
+use Rattle.host_driver.specs.PutPieces.{ArePart, IsPartSent}
 
 -- All that was announced was put.
 pub full-after : (left n : ℕ) (room : Option ℕ) → left ≡ n → Fell (Some (left - length {A = ℕ} [])) room n → IfSome room (λ m. m ≡ 0)

@@ -1,31 +1,29 @@
 -- An image that is put in pieces.
-use Rattle.std.proofs.Common.{◌≡◌, ◌⊎◌, inl, inr, ℕ, ◌+◌, ◌-◌, ◌*◌, ◌<◌, ◌≤◌, Bool, true, false, List, [], ◌∷◌, ◌++◌, length, take, Option, Some, None, refl, sym, ap, ◌∙◌, subst, arith}
+use Rattle.std.proofs.Common.{◌≡◌, ◌⊎◌, inl, inr, ℕ, ◌+◌, ◌*◌, ◌<◌, ◌≤◌, true, List, [], ◌∷◌, ◌++◌, length, Option, Some, None, refl, sym, ap, ◌∙◌, subst, arith}
 use Rattle.std.proofs.Math.Nat.{zero-mul, mul-le-mul_right}
 use Rattle.std.proofs.lemmas.List.{append-nil, append_assoc}
 use Rattle.std.proofs.lemmas.Grind.{flat_map-append}
-use Rattle.std.specs.Prelude.{Ok, is_none, unwrap_or, flat_map, IfSome, IsFalse}
+use Rattle.std.specs.Prelude.{Ok, is_none, unwrap_or, flat_map, IfSome}
 use Rattle.fb_frame.specs.Causes.{Rose}
 use Rattle.fb_frame.specs.Sinks.{Grew}
 use Rattle.fb_frame.proofs.SinkLemmas.{Grew-append, Grew-nothing}
 use Rattle.dev_model.specs.declared.cells.Cell.{Cell}
 use Rattle.dev_model.specs.declared.device.Dev.{Dev}
 use Rattle.dev_model.specs.declared.device.Mode.TheVariants.{Halted}
-use Rattle.dev_model.specs.declared.step.Step.{Step}
 use Rattle.dev_model.specs.declared.step.Step.TheVariants.{Put}
-use Rattle.dev_model.specs.Attempts.{IsHaltedOver, Left, LeftBehind, is_halted}
-use Rattle.dev_model.specs.Images.{image, over}
-use Rattle.dev_model.specs.Partitions.{is_fastboot, with_bytes}
+use Rattle.dev_model.specs.Attempts.{IsHaltedOver, Left}
+use Rattle.dev_model.specs.Images.{image}
+use Rattle.dev_model.specs.Partitions.{is_fastboot}
 use Rattle.dev_model.specs.Refusals.{refusal_of}
 use Rattle.dev_model.specs.Steps.{apply, can}
 use Rattle.dev_model.proofs.LeavingLemmas.{left_stopped, left_serving}
 use Rattle.dev_model.proofs.RefusingLemmas.{takes-none}
 use Rattle.dev_model.proofs.Taken.{takes_unless_refused}
-use Rattle.sparse_image.specs.Cuts.{Part, Cutting, AreCut, Cuts, part_len, part_bytes, part_cells, most_left, HasPartImage}
+use Rattle.sparse_image.specs.Cuts.{Part, Cutting, AreCut, Cuts, part_len, part_bytes, part_cells, most_left}
 use Rattle.sparse_image.specs.Pieces.{piece_cells}
 use Rattle.sparse_image.specs.Walks.{Kept as KeptImage, kept_cells, checked, IsChecked}
 use Rattle.sparse_image.proofs.PieceLemmas.{kept-long, piece-length}
 use Rattle.wire_model.specs.Says.{loaded_image}
-use Rattle.wire_model.specs.Wire.{Wire}
 use Rattle.wire_told.specs.Peers.{Peer, Apart, Joined, device_of, OfLink, OnLink}
 use Rattle.wire_told.specs.Ports.{PortTold, Kept}
 use Rattle.wire_told.proofs.Lifted.{of-of, of-both}
@@ -36,12 +34,11 @@ use Rattle.host_driver.specs.declared.drive.DriveError.TheVariants as stop
 use Rattle.host_driver.specs.Commands.{TookStep, RefusedStep}
 use Rattle.host_driver.specs.Driven.{IsHaltedNow}
 use Rattle.host_driver.specs.Driving.{Grows}
-use Rattle.host_driver.specs.HeardLast.{HeardThen}
 use Rattle.host_driver.specs.Jobs.{OfTold}
 use Rattle.host_driver.specs.PutPieces.{ArePart, GoesOn}
-use Rattle.host_driver.specs.Puts.{Whole, Putting, HasPut, PutFails, IsPieceLeft, IsPieceStuck, put_cost, piece_wire, image_cost, left_cost, IsFrontPut, ArePieces, PutsSoFar, IsPutSoFar, HasPutAll, PutBreaks}
-use Rattle.host_driver.specs.Stepping.{IsServing, Serving, WhyStopped, IsStepped, IsStopped, IsBrokenIn, IsStuck}
-use Rattle.host_driver.specs.Wires.{command_wire, download_wire, part_wire, IsPut, LogGrew}
+use Rattle.host_driver.specs.Puts.{Whole, Putting, HasPut, PutFails, IsPieceLeft, IsPieceStuck, put_cost, piece_wire, image_cost, left_cost, IsFrontPut, ArePieces, IsPutSoFar, HasPutAll, PutBreaks}
+use Rattle.host_driver.specs.Stepping.{IsServing, Serving, WhyStopped, IsBrokenIn, IsStuck}
+use Rattle.host_driver.specs.Wires.{part_wire, IsPut, LogGrew}
 use Rattle.host_driver.proofs.FrontLemmas.{front_put, front-none, front-all, front-next, refused-front}
 use Rattle.host_driver.proofs.HaltLemmas.{running}
 use Rattle.host_driver.proofs.PutPieceLemmas.{goes-both, back-on}

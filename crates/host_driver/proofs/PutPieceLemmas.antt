@@ -1,7 +1,7 @@
 -- A piece of an image, downloaded and flashed.
-use Rattle.std.proofs.Common.{◌≡◌, ◌⊎◌, inl, inr, ℕ, zero, suc, ◌+◌, ◌-◌, ◌*◌, ◌/◌, ◌^◌, ◌<◌, ◌≤◌, Bool, true, false, List, [], ◌∷◌, ◌++◌, length, length-append, length-drop, length-take, take, drop, Option, Some, None, refl, sym, ap, ◌∙◌, subst, arith}
+use Rattle.std.proofs.Common.{◌≡◌, ◌⊎◌, inl, inr, ℕ, zero, suc, ◌+◌, ◌*◌, ◌/◌, ◌^◌, ◌≤◌, Bool, true, false, List, [], ◌∷◌, ◌++◌, length, length-append, length-drop, length-take, take, drop, Option, Some, None, ap, ◌∙◌, subst, arith}
 use Rattle.std.proofs.lemmas.List.{append_assoc}
-use Rattle.std.specs.Prelude.{unwrap_or, option_and_then, codes, nat_lt, min, IfSome}
+use Rattle.std.specs.Prelude.{unwrap_or, option_and_then, codes, nat_lt}
 use Rattle.fb_frame.specs.Causes.{Rose}
 use Rattle.fb_frame.specs.Framing.{frame}
 use Rattle.fb_frame.specs.Numbers.{hex8}
@@ -12,30 +12,28 @@ use Rattle.fb_message.specs.Prefixes.{only_if}
 use Rattle.dev_model.specs.declared.cells.Cell.{Cell}
 use Rattle.dev_model.specs.declared.device.Dev.{Dev}
 use Rattle.dev_model.specs.declared.step.Step.TheVariants.{Put}
-use Rattle.dev_model.specs.Attempts.{IsHaltedOver}
 use Rattle.dev_model.specs.Images.{image}
 use Rattle.dev_model.specs.Partitions.{is_fastboot}
 use Rattle.wire_model.specs.Says.{Loaded, loaded_image}
 use Rattle.wire_model.specs.Wire.{Wire}
-use Rattle.wire_told.specs.Peers.{Peer, Apart, Joined, device_of, OfLink, OnLink, OffLink}
+use Rattle.wire_told.specs.Peers.{Peer, Apart, Joined, OfLink, OnLink, OffLink}
 use Rattle.wire_told.specs.Places.{Appended}
 use Rattle.wire_told.specs.Ports.{PortTold, Kept}
 use Rattle.wire_told.specs.Told.{HungUp}
 use Rattle.wire_told.proofs.Lifted.{of-of, of-both, of-on}
 use Rattle.wire_told.proofs.OneFrames.{length-frame}
 use Rattle.wire_told.proofs.PortLemmas.{Kept-trans}
-use Rattle.fb_link.specs.Seen.{Seen, seen}
+use Rattle.fb_link.specs.Seen.{Seen}
 use Rattle.sparse_image.specs.Cuts.{Part, part_len}
 use Rattle.host_driver.specs.declared.drive.DriveError.{DriveError}
 use Rattle.host_driver.specs.declared.drive.DriveError.TheVariants as stop
 use Rattle.host_driver.specs.Commands.{TookStep, RefusedStep}
 use Rattle.host_driver.specs.Driven.{IsHaltedNow}
-use Rattle.host_driver.specs.Driving.{Grows}
 use Rattle.host_driver.specs.HeardLast.{HeardThen}
 use Rattle.host_driver.specs.Jobs.{OfTold}
-use Rattle.host_driver.specs.PutPieces.{ArePart, IsLoadedBy, LoadsPart, IsPartLoaded, GoesOn, IsUnloaded, Unrefused}
+use Rattle.host_driver.specs.PutPieces.{ArePart, IsLoadedBy, IsPartLoaded, GoesOn, IsUnloaded, Unrefused}
 use Rattle.host_driver.specs.Puts.{Putting, put_cost, piece_wire, HasFlashed, FlashFails, IsFlashLeft, IsFlashStuck, HasPut, IsPieceLeft, IsPieceStuck, PutFails}
-use Rattle.host_driver.specs.Stepping.{IsServing, Serving, WhyStopped, NoFiles}
+use Rattle.host_driver.specs.Stepping.{IsServing, Serving}
 use Rattle.host_driver.proofs.LoadLemmas.{on-none, why-later}
 use Rattle.host_driver.specs.Wires.{full_frames, last_frame, command_wire, data_wire, download_wire, LogGrew}
 

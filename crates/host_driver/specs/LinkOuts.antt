@@ -4,7 +4,7 @@ use Rattle.std.specs.Prelude.{List, ◌++◌, length, drop, Option, Some, None, 
 use Rattle.fb_frame.specs.Causes.{Rose}
 use Rattle.wire_model.specs.Wire.{Wire}
 use Rattle.wire_told.specs.Answered.{Downloading, Sound, got_of}
-use Rattle.wire_told.specs.Peers.{Peer, Apart, Joined, OnLink}
+use Rattle.wire_told.specs.Peers.{Peer, Joined, OnLink}
 use Rattle.wire_told.specs.Places.{Appended}
 use Rattle.wire_told.specs.Ports.{PortTold, Kept}
 use Rattle.wire_told.specs.Told.{HungUp}

@@ -1,5 +1,5 @@
 -- A piece of an image: what its download and its flash come to.
-use Rattle.std.specs.Prelude.{◌≡◌, ℕ, ◌+◌, ◌*◌, true, false, List, [], ◌∷◌, ◌++◌, length, Option, Some, None, IfSome}
+use Rattle.std.specs.Prelude.{◌≡◌, ℕ, ◌+◌, true, false, List, [], ◌∷◌, ◌++◌, length, Option, Some, None, IfSome}
 use Rattle.std.specs.List.{list_all}
 use Rattle.fb_frame.specs.Causes.{Rose}
 use Rattle.fb_frame.specs.Sinks.{Grew}
@@ -12,7 +12,6 @@ use Rattle.sparse_image.specs.Cuts.{Part, part_len, part_bytes, HasPartImage}
 use Rattle.wire_model.specs.Wire.{Wire}
 use Rattle.wire_told.specs.Answered.{Downloading, Unbegun, is_line, reply_frames}
 use Rattle.wire_told.specs.Peers.{Peer, OfLink, OnLink}
-use Rattle.wire_told.specs.Places.{Appended}
 use Rattle.wire_told.specs.Ports.{PortTold, Kept}
 use Rattle.host_driver.specs.declared.drive.DriveError.{DriveError}
 use Rattle.host_driver.specs.declared.drive.DriveError.TheVariants as stop

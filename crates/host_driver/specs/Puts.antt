@@ -1,5 +1,5 @@
 -- An image that is put over a partition, piece by piece: what each flash and all of them come to.
-use Rattle.std.specs.Prelude.{◌≡◌, ◌⊎◌, ℕ, ◌+◌, ◌-◌, ◌*◌, true, flat_map, ◌<◌, ◌≤◌, List, [], ◌∷◌, ◌++◌, length, take, Option, Some, None, IfSome, IsFalse}
+use Rattle.std.specs.Prelude.{◌≡◌, ◌⊎◌, ℕ, ◌+◌, ◌-◌, ◌*◌, true, flat_map, ◌≤◌, List, [], ◌++◌, take, Option, Some, IfSome, IsFalse}
 use Rattle.std.specs.Prelude.{option_and_then}
 use Rattle.fb_frame.specs.Causes.{Rose}
 use Rattle.fb_frame.specs.Sinks.{Grew}

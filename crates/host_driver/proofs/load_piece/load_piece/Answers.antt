@@ -1,6 +1,5 @@
-use Rattle.std.proofs.Common.{subst, sym, ◌∙◌, refl, ◌≤◌}
+use Rattle.std.proofs.Common.{subst, sym, ◌≤◌}
 use Rattle.wire_told.specs.Peers.{OfLink}
-use Rattle.wire_told.specs.Ports.{PortTold}
 use Rattle.fb_link.specs.Seen.{seen}
 use Rattle.host_driver.specs.PutPieces.{HasEnded, IsUnloaded, HeardLoad}
 use Rattle.host_driver.specs.Stepping.{NoFiles}

@@ -1,8 +1,7 @@
-use Rattle.std.proofs.Common.{◌≡◌, ◌∙◌, refl, sym, ap, subst, arith, Ok, List, ℕ, Some, None}
-use Rattle.fb_frame.specs.Causes.{Rose}
+use Rattle.std.proofs.Common.{◌∙◌, refl, sym, ap, subst, arith, Ok}
 use Rattle.sparse_image.specs.Walks.{Kept, IsChecked}
 use Rattle.host_driver.specs.PutPieces.{ArePart, IsUnread}
-use Rattle.host_driver.specs.Puts.{Whole, image_cost}
+use Rattle.host_driver.specs.Puts.{image_cost}
 use Rattle.host_driver.proofs.PutLemmas.{Put-begun, Put-more, Put-all, Put-breaks, Piece-kept}
 use Rattle.host_driver.proofs.put.put.Goals as goal
 

@@ -1,4 +1,3 @@
-use Rattle.host_driver.specs.PutPieces.{ArePart, IsUnread}
 use Rattle.host_driver.proofs.PutPieceLemmas.{Has-put, Fails-loading, Fails-flashing}
 use Rattle.host_driver.proofs.put_piece.put_piece.Goals as goal
 
