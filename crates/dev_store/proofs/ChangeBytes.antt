@@ -175,7 +175,7 @@ pub record IsFilled (layout : LayoutValue) (s : SuperPart) (f : List ℕ → Lis
   pub touched : IsTouched layout s f ps name units from old new
   pub padded : take (size - from) (drop from (units_bytes s (super_bytes layout s new) units)) ≡ zeros (size - from)
 
-all-others : (s : SuperPart) (super : List ℕ) (f : List ℕ → List ℕ) (name : List ℕ) (ps : List Logical) → AllByRecursion (λ p. LiesIn s super p (f p.name)) ps → AllByRecursion (λ p. p.name ≢ name → LiesIn s super p (f p.name)) ps
+pub all-others : (s : SuperPart) (super : List ℕ) (f : List ℕ → List ℕ) (name : List ℕ) (ps : List Logical) → AllByRecursion (λ p. LiesIn s super p (f p.name)) ps → AllByRecursion (λ p. p.name ≢ name → LiesIn s super p (f p.name)) ps
 all-others s super f name [] h = tt
 all-others s super f name (p ∷ ps) h = (λ ne. h.0, all-others s super f name ps h.1)
 

@@ -216,6 +216,24 @@ physical-apart layout state c file name valid there =
     ap (λ (qs : List Physical). among name (map (λ p. p.name) qs)) (sym (physical-in layout state c file))
     ∙ not-among (among name ps) (λ m. distinct-apart ps ls (names-apart dev valid) name (any-mem name ps m) (any-mem name ls there))
 
+-- the units that a partition is to have hold its bytes
+module _ (layout : LayoutValue) (s : SuperPart) (state : State) (c : Content) (o now : Owning) (parts old name : List ℕ) (part size : ℕ) (h : IsStoreSuper layout s state c o parts old)
+    (at : slice_get parts (position_or_len (at-name name) (device_in layout state c old).logical) ≡ Some part) (e : now ≡ regrown o part (units_for s.unit (round_up size))) (one : OneOwner now)
+    (room : units_for s.unit (round_up size) ≤ length (units_owned o part) + length (free_units o)) where
+
+  pub resize-holds : round_up size ≤ length (units_bytes s (super_bytes layout s old) (units_owned now part))
+  resize-holds =
+      let dev = device_in layout state c old in
+      let d = store-device layout s state c o parts old h in
+      let many = store-many layout s state c o parts old h in
+      let own : by_name now parts dev.logical name ≡ units_owned now part = by-place now parts dev.logical name many ∙ ap (units_by (Some now)) at in
+      let m = resize-map layout s state c o now parts old name part size h at e one room in
+      let four = d.bounded.unit in
+      let pos : 0 < s.unit = omega arith in
+      holds-all s (super_bytes layout s old) (units_owned now part) (units_for s.unit (round_up size)) (round_up size) d.long pos
+      (subst (λ l. list_all (λ u. nat_lt u (unit_count s)) l ≡ true) own (below-of now parts dev.logical name (unit_count s) many one m.units))
+      (sym (ap length own) ∙ resized-many layout s state c o now parts old name part size h at e one room) refl
+
 -- What a write in the partition of the next table touches: only its own bytes from the place on.
 module _ (layout : LayoutValue) (s : SuperPart) (state : State) (c : Content) (o now : Owning) (parts old name : List ℕ) (part size : ℕ) (h : IsStoreSuper layout s state c o parts old)
     (at : slice_get parts (position_or_len (at-name name) (device_in layout state c old).logical) ≡ Some part) (e : now ≡ regrown o part (units_for s.unit (round_up size))) (one : OneOwner now)
@@ -255,19 +273,6 @@ module _ (layout : LayoutValue) (s : SuperPart) (state : State) (c : Content) (o
       (own-of (take (round_up size) (units_bytes s (super_bytes layout s new) (g name)) ≡ written (take (round_up size) (units_bytes s (super_bytes layout s old) (g name))) len bytes) name dev.logical
       (own-resized s (super_bytes layout s old) (super_bytes layout s new) g name (λ b. written b len bytes) (round_up size) dev.logical resize-back) there)
 
-  resize-long : round_up size ≤ length (units_bytes s (super_bytes layout s old) (units_owned now part))
-  resize-long =
-      let dev = device_in layout state c old in
-      let d = store-device layout s state c o parts old h in
-      let many = store-many layout s state c o parts old h in
-      let own : by_name now parts dev.logical name ≡ units_owned now part = by-place now parts dev.logical name many ∙ ap (units_by (Some now)) at in
-      let m = resize-map layout s state c o now parts old name part size h at e one room in
-      let four = d.bounded.unit in
-      let pos : 0 < s.unit = omega arith in
-      holds-all s (super_bytes layout s old) (units_owned now part) (units_for s.unit (round_up size)) (round_up size) d.long pos
-      (subst (λ l. list_all (λ u. nat_lt u (unit_count s)) l ≡ true) own (below-of now parts dev.logical name (unit_count s) many one m.units))
-      (sym (ap length own) ∙ resized-many layout s state c o now parts old name part size h at e one room) refl
-
   -- the old partitions, and the bytes before the place
   pub resize-touched : len + length bytes ≤ round_up size → IsTouched layout s (by_name o parts (device_in layout state c old).logical) (device_in layout state c old).logical name (units_owned now part) len old new
   resize-touched fits =
@@ -282,14 +287,14 @@ module _ (layout : LayoutValue) (s : SuperPart) (state : State) (c : Content) (o
         physical = puts-physical layout state table old new name len bytes (physical-apart layout state c old name d.valid (sym (any-map (λ p. p.name) name dev.logical) ∙ there)) put;
         others = lies-resized s (super_bytes layout s old) (super_bytes layout s new) f g name (λ b. written b len bytes)
             (resized-one layout s state c o now parts old name part size h at e one room).others (cut_or_padded (round_up size)) dev.logical d.units.lies resize-back;
-        kept = own-kept (round_up size) len bytes (units_bytes s (super_bytes layout s old) (units_owned now part)) (units_bytes s (super_bytes layout s new) (units_owned now part)) fits resize-long resize-own;
+        kept = own-kept (round_up size) len bytes (units_bytes s (super_bytes layout s old) (units_owned now part)) (units_bytes s (super_bytes layout s new) (units_owned now part)) fits (resize-holds layout s state c o now parts old name part size h at e one room) resize-own;
       }
 
   pub resize-filled : len + length bytes ≡ round_up size → bytes ≡ zeros (round_up size - len) →
       IsFilled layout s (by_name o parts (device_in layout state c old).logical) (device_in layout state c old).logical name (units_owned now part) len (round_up size) old new
   resize-filled whole are = record {
     touched = resize-touched (omega arith);
-    padded = own-padded (round_up size) len bytes (units_bytes s (super_bytes layout s old) (units_owned now part)) (units_bytes s (super_bytes layout s new) (units_owned now part)) whole resize-long resize-own ∙ are;
+    padded = own-padded (round_up size) len bytes (units_bytes s (super_bytes layout s old) (units_owned now part)) (units_bytes s (super_bytes layout s new) (units_owned now part)) whole (resize-holds layout s state c o now parts old name part size h at e one room) resize-own ∙ are;
   }
 
 -- what is so of the last
@@ -302,6 +307,26 @@ named-none : (layout : LayoutValue) (state : State) (c : Content) (file name : L
 named-none layout state c file name h =
     ap (λ (qs : List Physical). among name (map (λ p. p.name) qs)) (sym (physical-in layout state c file))
     ∙ (sym (any-map (λ p. p.name) name (device_in layout state c file).physical) ∙ h)
+
+-- the units that a new partition is to have hold its bytes
+module _ (layout : LayoutValue) (s : SuperPart) (state : State) (c : Content) (o now : Owning) (parts old name : List ℕ) (part count size : ℕ) (h : IsStoreSuper layout s state c o parts old)
+    (free : list_any (λ p. p == part) parts ≡ false) (inside : part < 128) (e : now ≡ handed o part (take count (free_units o)))
+    (fresh : not (among name (map (λ p. p.name) (device_in layout state c old).logical)) ≡ true)
+    (one : OneOwner now) (needs : count ≡ units_for s.unit (round_up size)) (room : count ≤ length (free_units o)) (group : is_group (device_in layout state c old).groups (codes "default") ≡ true) where
+
+  pub create-holds : round_up size ≤ length (units_bytes s (super_bytes layout s old) (units_owned now part))
+  create-holds =
+      let dev = device_in layout state c old in
+      let d = store-device layout s state c o parts old h in
+      let all = many-more parts dev.logical part (new_logical name size) (store-many layout s state c o parts old h) in
+      let own = create-units layout s state c o now parts old name part count size h free inside e fresh in
+      let m = create-map layout s state c o now parts old name part count size h free inside e fresh needs room group in
+      let is = now-own layout s state c o now parts old name part count size h free inside e fresh in
+      let four = d.bounded.unit in
+      let pos : 0 < s.unit = omega arith in
+      holds-all s (super_bytes layout s old) (units_owned now part) count (round_up size) d.long pos
+      (subst (λ l. list_all (λ u. nat_lt u (unit_count s)) l ≡ true) own (below-of now (parts ++ part ∷ []) (dev.logical ++ new_logical name size ∷ []) name (unit_count s) all one m.units))
+      (ap length is ∙ length-take-le count (free_units o) room) needs
 
 -- The same of a new partition.
 module _ (layout : LayoutValue) (s : SuperPart) (state : State) (c : Content) (o now : Owning) (parts old name : List ℕ) (part count size : ℕ) (h : IsStoreSuper layout s state c o parts old)
@@ -332,20 +357,6 @@ module _ (layout : LayoutValue) (s : SuperPart) (state : State) (c : Content) (o
       (own-put s (super_bytes layout s old) (super_bytes layout s new) g name (λ b. written b 0 bytes) (round_up size) (new_logical name size) (length-replicate (round_up size) 0)
       (last-of (IsPut s (super_bytes layout s old) (super_bytes layout s new) g name (λ b. written b 0 bytes)) dev.logical (new_logical name size) create-puts) refl)
 
-  create-long : round_up size ≤ length (units_bytes s (super_bytes layout s old) (units_owned now part))
-  create-long =
-      let dev = device_in layout state c old in
-      let d = store-device layout s state c o parts old h in
-      let all = many-more parts dev.logical part (new_logical name size) (store-many layout s state c o parts old h) in
-      let own = create-units layout s state c o now parts old name part count size h free inside e fresh in
-      let m = create-map layout s state c o now parts old name part count size h free inside e fresh needs room group in
-      let is = now-own layout s state c o now parts old name part count size h free inside e fresh in
-      let four = d.bounded.unit in
-      let pos : 0 < s.unit = omega arith in
-      holds-all s (super_bytes layout s old) (units_owned now part) count (round_up size) d.long pos
-      (subst (λ l. list_all (λ u. nat_lt u (unit_count s)) l ≡ true) own (below-of now (parts ++ part ∷ []) (dev.logical ++ new_logical name size ∷ []) name (unit_count s) all one m.units))
-      (ap length is ∙ length-take-le count (free_units o) room) needs
-
   pub create-touched : length bytes ≤ round_up size → IsTouched layout s (by_name o parts (device_in layout state c old).logical) (device_in layout state c old).logical name (units_owned now part) 0 old new
   create-touched fits =
       let dev = device_in layout state c old in
@@ -367,6 +378,6 @@ module _ (layout : LayoutValue) (s : SuperPart) (state : State) (c : Content) (o
       let z : round_up size ≡ round_up size - 0 = omega arith in
       record {
         touched = create-touched (omega (arith, n));
-        padded = own-padded (round_up size) 0 bytes (units_bytes s (super_bytes layout s old) (units_owned now part)) (units_bytes s (super_bytes layout s new) (units_owned now part)) (omega (arith, n)) create-long create-own
+        padded = own-padded (round_up size) 0 bytes (units_bytes s (super_bytes layout s old) (units_owned now part)) (units_bytes s (super_bytes layout s new) (units_owned now part)) (omega (arith, n)) (create-holds layout s state c o now parts old name part count size h free inside e fresh one needs room group) create-own
             ∙ (are ∙ ap zeros z);
       }

@@ -21,18 +21,18 @@ pub record AreZeros (bytes : List ℕ) : Type 0 where
   pub many : ℕ
   pub are : bytes ≡ replicate many 0
 
-zeros-self : (bytes : List ℕ) → AreZeros bytes → zeros (length bytes) ≡ bytes
+pub zeros-self : (bytes : List ℕ) → AreZeros bytes → zeros (length bytes) ≡ bytes
 unfolding zeros
 zeros-self bytes z = ap (λ n. replicate n 0) (ap length z.are ∙ length-replicate z.many 0) ∙ sym z.are
 
-of-zeros : (n : ℕ) → AreZeros (zeros n)
+pub of-zeros : (n : ℕ) → AreZeros (zeros n)
 unfolding zeros
 of-zeros n = record { many = n; are = refl }
 
-of-drop : (n : ℕ) (bytes : List ℕ) → AreZeros bytes → AreZeros (drop n bytes)
+pub of-drop : (n : ℕ) (bytes : List ℕ) → AreZeros bytes → AreZeros (drop n bytes)
 of-drop n bytes z = record { many = z.many - n; are = ap (drop n) z.are ∙ drop-replicate n z.many 0 }
 
-of-take : (n : ℕ) (bytes : List ℕ) → AreZeros bytes → AreZeros (take n bytes)
+pub of-take : (n : ℕ) (bytes : List ℕ) → AreZeros bytes → AreZeros (take n bytes)
 of-take n bytes z = by (leb_tells n z.many)
   where
     by : ((nat_le n z.many ≡ true) × (n ≤ z.many)) ⊎ ((nat_le n z.many ≡ false) × (z.many < n)) → AreZeros (take n bytes)
@@ -44,7 +44,7 @@ of-take n bytes z = by (leb_tells n z.many)
 of-append : (a b : List ℕ) → AreZeros a → AreZeros b → AreZeros (a ++ b)
 of-append a b y z = record { many = y.many + z.many; are = ap (λ x. x ++ b) y.are ∙ (ap (λ x. replicate y.many 0 ++ x) z.are ∙ replicate-append-replicate y.many z.many 0) }
 
-of-units : (s : SuperPart) (super units : List ℕ) → AreZeros super → AreZeros (flat_map (unit_bytes s super) units)
+pub of-units : (s : SuperPart) (super units : List ℕ) → AreZeros super → AreZeros (flat_map (unit_bytes s super) units)
 of-units s super [] z = record { many = 0; are = refl }
 of-units s super (u ∷ units) z = of-append (unit_bytes s super u) (flat_map (unit_bytes s super) units) (of-take s.unit _ (of-drop _ super z)) (of-units s super units z)
 
