@@ -40,6 +40,8 @@ mod super_repair;
 mod super_rooms;
 mod super_table;
 mod table_build;
+mod table_calls;
+mod table_commit;
 mod table_install;
 mod table_next;
 mod table_runs;

@@ -9,7 +9,7 @@ ghost use Rattle.super_meta.specs.TableBytes.{TableBytes};
 ghost use Rattle.super_meta.specs.TableText.{table_size};
 ghost use Rattle.dev_store.specs.SuperBounds.{IsBounded};
 ghost use Rattle.dev_store.specs.SuperReads.{IsSpelled, HasRooms};
-ghost use Rattle.dev_store.specs.SuperRepairs.{AreTablesMended};
+ghost use Rattle.dev_store.specs.SuperRepairs.{AreTablesMended, SaysTable};
 ghost use Rattle.dev_store.specs.TableWrites.{AreLeft, AreCopiesWritten, AreCopiesLeft, IsTableAround};
 
 use crate::layout::SuperPart;
@@ -100,6 +100,7 @@ pub(crate) fn put_next<K: Disk>(
         (open_bytes (K.told disk.old)) (open_bytes (K.told disk.new))) }
     ensures around { OnErr result (Both (IsTableAround (K.told disk.new).torn s.now at
         (content within.old.next)) (open_bytes (K.told disk.old)) (open_bytes (K.told disk.new))) }
+    ensures says { SaysTable (content within.old.next) within.new.copy.items }
     ensures put { OnOk result (within.new.table ≡ within.old.next) }
     ensures back { OnOk result (within.new.next ≡ within.old.table) }
     ensures spelled { OnOk result (IsSpelled s.now within.new) }

@@ -32,3 +32,19 @@ returns-clause-written g c =
     let says = subst (SaysTable t) (sym bytes) (ap result_ok (gives c.spell-size.new.copy t c.spell-size.ensures.spelled)) in
     both-map (open_bytes a) (open_bytes b) c.in-Ok.ensures.written
     (λ x y w. copies-mended s c.args.at t _ x y c.requires.bounded says w)
+
+pub returns-in_default-clause-says : goal.returns-in_default-clause-says
+returns-in_default-clause-says g c =
+    let s = c.args.s.now in
+    let t = content c.args.within.now.next in
+    let long = ap length c.deref_mut.ensures.value ∙ c.requires.long in
+    subst (SaysTable t) (sym (lent-is s.max_size _ _ _ (c.spell-size.auto.copy ∙ long) (sym c.deref_mut.ensures.len ∙ long)))
+    (ap result_ok (gives c.spell-size.new.copy t c.spell-size.ensures.spelled))
+
+pub returns-clause-says : goal.returns-clause-says
+returns-clause-says g c =
+    let s = c.args.s.now in
+    let t = content c.args.within.now.next in
+    let long = ap length c.deref_mut.ensures.value ∙ c.requires.long in
+    subst (SaysTable t) (sym (lent-is s.max_size _ _ _ (c.spell-size.auto.copy ∙ long) (sym c.deref_mut.ensures.len ∙ long)))
+    (ap result_ok (gives c.spell-size.new.copy t c.spell-size.ensures.spelled))
