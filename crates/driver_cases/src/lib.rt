@@ -3,3 +3,5 @@
 
 #[cfg(test)]
 mod link_outs;
+#[cfg(test)]
+mod steps;

@@ -1,5 +1,5 @@
 -- Steps of an attempt, one after another.
-use Rattle.std.proofs.Common.{◌≡◌, ℕ, zero, suc, ◌≤◌, Bool, true, false, Option, Some, None, List, [], ◌∷◌, ◌++◌, length, take, refl, sym, ap, ◌∙◌, subst, arith, slice_get, append_assoc, append-nil}
+use Rattle.std.proofs.Common.{◌≡◌, ℕ, zero, suc, Bool, true, false, Option, Some, None, List, [], ◌∷◌, ◌++◌, take, refl, sym, ap, ◌∙◌, subst, arith, slice_get, append-nil}
 use Rattle.std.specs.Prelude.{MatchBool}
 use Rattle.std.proofs.lemmas.Option.{slice_get_within}
 use Rattle.fb_frame.specs.Causes.{Rose}
@@ -9,10 +9,9 @@ use Rattle.dev_model.specs.declared.device.Dev.{Dev}
 use Rattle.dev_model.specs.declared.device.Mode.TheVariants.{Halted}
 use Rattle.dev_model.specs.declared.step.Step.{Step}
 use Rattle.dev_model.specs.Attempts.{Left, LeftHalted, LeftBehind, IsNextAtMost, IsHaltedAt, is_halted}
-use Rattle.dev_model.specs.Steps.{run, can, apply}
+use Rattle.dev_model.specs.Steps.{run}
 use Rattle.dev_model.proofs.LeavingLemmas.{run_next, in-first, in-second}
 use Rattle.wire_told.specs.Peers.{Peer, device_of}
-use Rattle.wire_told.specs.Ports.{PortTold, Kept}
 use Rattle.wire_told.proofs.PortLemmas.{Kept-same, Kept-trans}
 use Rattle.fb_link.specs.Seen.{Seen, seen}
 use Rattle.host_driver.specs.declared.drive.DriveError.{DriveError}

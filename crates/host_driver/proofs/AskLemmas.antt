@@ -1,6 +1,6 @@
 -- A question over a connection: what its answers come to.
-use Rattle.std.proofs.Common.{◌≡◌, ◌≢◌, inl, inr, ℕ, zero, suc, ◌+◌, ◌<◌, ◌≤◌, Bool, true, false, Option, Some, None, List, [], ◌∷◌, ◌++◌, length, take, refl, sym, ap, ◌∙◌, subst, arith, length-append, append_assoc}
-use Rattle.std.specs.Prelude.{codes, map, flat_map, nat_le, slice_get, if◌then◌else◌, bytes_eq, Ok, Err}
+use Rattle.std.proofs.Common.{◌≡◌, ◌≢◌, inl, inr, ℕ, suc, ◌+◌, ◌<◌, ◌≤◌, Bool, true, false, Option, Some, None, List, [], ◌∷◌, ◌++◌, length, take, refl, sym, ap, ◌∙◌, subst, arith, length-append, append_assoc}
+use Rattle.std.specs.Prelude.{codes, map, nat_le, slice_get, if◌then◌else◌, bytes_eq, Ok, Err}
 use Rattle.std.specs.List.{list_all}
 use Rattle.std.proofs.lemmas.Bool.Decides.{nat_tests}
 use Rattle.std.specs.Prelude.{nat_lt, ◌-◌}
@@ -8,26 +8,26 @@ use Rattle.std.proofs.lemmas.List.{take-append-le}
 use Rattle.std.proofs.Math.Seq.{take-append_seam, take-append-add}
 use Rattle.fb_frame.specs.Causes.{Rose}
 use Rattle.fb_frame.specs.Framing.{frame}
-use Rattle.fb_frame.specs.Sinks.{Grew, GrewPart, GrewByPart}
+use Rattle.fb_frame.specs.Sinks.{Grew, GrewByPart}
 use Rattle.fb_frame.specs.Told.{Both}
 use Rattle.fb_frame.proofs.ToldLemmas.{both-weaker}
 use Rattle.fb_message.specs.declared.reply.Reply.{Reply}
 use Rattle.fb_message.specs.declared.reply.Reply.TheVariants.{Okay, Fail, Info}
-use Rattle.fb_message.specs.CommandText.{CommandValue, GetVar, spelling}
+use Rattle.fb_message.specs.CommandText.{GetVar, spelling}
 use Rattle.fb_message.specs.Prefixes.{only_if}
 use Rattle.fb_message.specs.ReplyText.{reply_bytes}
 use Rattle.fb_message.proofs.Commands.{command_again}
 use Rattle.fb_message.proofs.Words.{only-inverse}
 use Rattle.dev_model.specs.declared.device.Dev.{Dev}
 use Rattle.dev_model.specs.Partitions.{is_fastboot}
-use Rattle.dev_model.specs.Variables.{value, asked, all_rows}
+use Rattle.dev_model.specs.Variables.{value, all_rows}
 use Rattle.dev_model.proofs.Valid.{both}
 use Rattle.wire_model.specs.Halts.{Halts}
 use Rattle.wire_model.specs.Says.{Loaded, says, tells, tells_all}
 use Rattle.wire_model.specs.Wire.{Wire}
 use Rattle.wire_told.specs.Answered.{IsAnswered, is_line}
 use Rattle.wire_told.specs.Exchanges.{said_to, IsExchanged, IsInterrupted, Exchanged}
-use Rattle.wire_told.specs.Peers.{Peer, Apart, Joined, OfLink, OnLink}
+use Rattle.wire_told.specs.Peers.{Peer, Apart, Joined, OnLink}
 use Rattle.wire_told.specs.Places.{Appended}
 use Rattle.wire_told.specs.Ports.{Kept}
 use Rattle.wire_told.proofs.ExchangeLemmas.{said-open}
@@ -45,10 +45,8 @@ use Rattle.fb_link.proofs.TypedLemmas.{Exchanged-concluded}
 use Rattle.host_driver.specs.declared.drive.DriveError.{DriveError}
 use Rattle.host_driver.specs.declared.drive.DriveError.TheVariants as stop
 use Rattle.host_driver.specs.Asking.{Told, told_reply, Tells, lines_to, IsAsked, ShowsSome, IsCutIn, ShowsBy, IsUnrefused, IsUnasked}
-use Rattle.host_driver.specs.HeardLast.{HeardThen}
-use Rattle.host_driver.specs.Jobs.{OfTold}
 use Rattle.host_driver.specs.Printing.{infos_to, joined}
-use Rattle.host_driver.specs.Stepping.{IsServing, Serving, NoFiles, stop_of}
+use Rattle.host_driver.specs.Stepping.{IsServing, stop_of}
 use Rattle.host_driver.proofs.TakeLemmas.{told-on, told-off, with-off, heard-more, heard-again, logged, why-broken, heard-broken, grows-part}
 
 -- What a device says to a question: its lines, and one reply.

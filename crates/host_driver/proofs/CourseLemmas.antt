@@ -1,11 +1,10 @@
 -- What attempts leave, one after another.
-use Rattle.std.proofs.Common.{◌≡◌, ℕ, zero, suc, Bool, true, false, Option, Some, None, List, [], ◌∷◌, ◌++◌, All, refl, sym, ap, ◌∙◌, subst, arith}
-use Rattle.std.specs.Prelude.{MatchBool}
+use Rattle.std.proofs.Common.{◌≡◌, ℕ, true, false, List, [], ◌∷◌, ◌++◌, All, refl, sym, subst, arith}
 use Rattle.std.proofs.lemmas.List.Elements.{recursion_from_All, All-from_recursion}
 use Rattle.std.specs.List.{AllByRecursion}
 use Rattle.dev_model.specs.declared.device.Dev.{Dev}
 use Rattle.dev_model.specs.declared.step.Step.{Step}
-use Rattle.dev_model.specs.Attempts.{Left, LeftBehind, Chain, is_halted}
+use Rattle.dev_model.specs.Attempts.{LeftBehind, Chain, is_halted}
 use Rattle.dev_model.specs.Partitions.{is_fastboot}
 use Rattle.dev_model.proofs.LeavingLemmas.{left_taken, left_serving, chain_next, chain_unmet, in-first}
 use Rattle.host_driver.specs.Leaving.{LeavesMore, LeavesUnmet, LeavesBefore, LeavesUnplanned}

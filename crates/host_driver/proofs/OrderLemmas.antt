@@ -1,5 +1,5 @@
 -- The command of an order takes the step that the order stands for.
-use Rattle.std.proofs.Common.{◌≡◌, ℕ, true, false, Option, Some, None, List, refl, sym, ap, ◌∙◌, subst}
+use Rattle.std.proofs.Common.{◌≡◌, true, Option, Some, List, refl, sym, ap, subst}
 use Rattle.std.specs.Prelude.{unwrap_or, Result, Ok, Err, IfOk, IfErr}
 use Rattle.fb_frame.specs.declared.tables.Tables.{Tables}
 use Rattle.fb_message.specs.CommandText.{CommandValue, SetActive, Resize, Erase, Reboot, Unknown}

@@ -14,7 +14,7 @@ use fb_message::command::Command;
 use fb_message::line::Line;
 
 /// Asks for a variable: its text, or the text of the refusal to tell it. Each line before it is shown.
-pub(crate) fn ask<P: Port, S: Sink>(
+pub fn ask<P: Port, S: Sink>(
     ready: Ready<P>,
     name: &[u8],
     shown: &mut S,

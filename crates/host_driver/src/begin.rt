@@ -24,7 +24,7 @@ fn know_four(error: &LinkError)
 }
 
 /// Begins a connection.
-pub(crate) fn begin<P: Port>(link: Lost<P>) -> Result<Ready<P>, (Lost<P>, DriveError)>
+pub fn begin<P: Port>(link: Lost<P>) -> Result<Ready<P>, (Lost<P>, DriveError)>
     requires aimed { IsTrue (P.told link).aimed }
     requires sound { Sound (P.told link).peer }
     ensures same { IfOk result (λ r. P.lent r ≡ P.lent link) }
@@ -43,7 +43,7 @@ pub(crate) fn begin<P: Port>(link: Lost<P>) -> Result<Ready<P>, (Lost<P>, DriveE
 }
 
 /// Begins another connection in place of this one.
-pub(crate) fn renew<P: Port>(ready: Ready<P>) -> Result<Ready<P>, (Lost<P>, DriveError)>
+pub fn renew<P: Port>(ready: Ready<P>) -> Result<Ready<P>, (Lost<P>, DriveError)>
     requires aimed { IsTrue (P.told ready).aimed }
     ensures same { IfOk result (λ r. P.lent r ≡ P.lent ready) }
     ensures same_lost { IfErr result (λ e. P.lent e.0 ≡ P.lent ready) }

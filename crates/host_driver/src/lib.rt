@@ -7,20 +7,18 @@ ghost use Rattle.host_driver.specs.Commands.{Decisions};
 ghost use Rattle.host_driver.specs.Completing.{Completes, RefusesExactly};
 ghost use Rattle.host_driver.specs.Excluded.{Excluded};
 
-mod ask;
+pub mod ask;
 pub mod before;
-mod begin;
+pub mod begin;
 pub mod drive;
-mod lines;
+pub mod lines;
 pub mod link_out;
 pub mod load_piece;
 pub mod log_port;
 pub mod put;
 mod put_piece;
 pub mod send_piece;
-mod step;
-#[cfg(test)]
-mod tests;
+pub mod step;
 
 /// The laws of installations.
 pub fn laws()

@@ -93,7 +93,7 @@ fn put_words<S: Sink>(order: &Order, long: u64, out: &mut S) -> Result<(), SinkF
 
 /// Puts the line of a step that was acknowledged; an image is named by its length.
 #[tactic(auto, using(fb_frame::proofs::SinkLemmas::sink_lines))]
-pub(crate) fn put_step<S: Sink>(order: &Order, long: u64, out: &mut S) -> Result<(), SinkFault>
+pub fn put_step<S: Sink>(order: &Order, long: u64, out: &mut S) -> Result<(), SinkFault>
     ensures put { OnOk result
         (Grew (S.text out.old) (S.text out.new) (step_text long order.now ++ 10 ∷ [])) }
     ensures part { OnErr result
@@ -121,7 +121,7 @@ fn put_number<S: Sink>(word: &[u8], number: u8, rest: &[u8], out: &mut S) -> Res
 }
 
 /// Puts the line before a retry, counted from 1.
-pub(crate) fn put_retry<S: Sink>(retry: u8, out: &mut S) -> Result<(), SinkFault>
+pub fn put_retry<S: Sink>(retry: u8, out: &mut S) -> Result<(), SinkFault>
     ensures put { OnOk result (Grew (S.text out.old) (S.text out.new) (retry_line retry)) }
     ensures part { OnErr result (GrewPart (S.text out.old) (S.text out.new) (retry_line retry)) }
     ensures cause { HasCause (S.faults out.old) (S.faults out.new) result }

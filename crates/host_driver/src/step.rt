@@ -24,7 +24,7 @@ use fb_message::packet::Packet;
 use flash_plan::plan::Order;
 
 /// What a lost connection is to an installation.
-pub(crate) fn stopped(error: LinkError) -> DriveError
+pub fn stopped(error: LinkError) -> DriveError
     ensures { result ≡ stop_of error }
 {
     match error {
@@ -70,7 +70,7 @@ fn know_spelled(command: &Command<'_>)
 }
 
 /// Takes a step by its command: sends it and hears the replies, of which each line is shown.
-pub(crate) fn take<P: Port, S: Sink>(
+pub fn take<P: Port, S: Sink>(
     ready: Ready<P>,
     command: &Command<'_>,
     shown: &mut S,
@@ -103,7 +103,7 @@ pub(crate) fn take<P: Port, S: Sink>(
 }
 
 /// The command of a step that takes one alone; an image and tables are downloaded before theirs.
-pub(crate) fn command_for(order: &Order) -> Option<Command<'static>>
+pub fn command_for(order: &Order) -> Option<Command<'static>>
     ensures { option_map command_value result ≡ command_for order.now }
 {
     match order {
@@ -118,7 +118,7 @@ pub(crate) fn command_for(order: &Order) -> Option<Command<'static>>
 
 /// Takes a step that is one command: a slot made active, a new length, an erasure or a reboot.
 #[tactic(auto, using(crate::proofs::OrderLemmas::orders))]
-pub(crate) fn take_alone<P: Port, S: Sink>(
+pub fn take_alone<P: Port, S: Sink>(
     ready: Ready<P>,
     order: &Order,
     shown: &mut S,

@@ -1,11 +1,5 @@
 ghost use Rattle.std.specs.Prelude.{IfOk, IsTrue};
 
-use crate::ask::ask;
-use crate::begin::begin;
-use crate::drive::DriveError;
-use crate::lines::{put_retry, put_step};
-use crate::log_port::LogPort;
-use crate::step::take;
 use fb_frame::memory_sink::MemorySink;
 use fb_frame::name::Name;
 use fb_frame::slot::Slot;
@@ -14,6 +8,12 @@ use fb_link::script_port::ScriptPort;
 use fb_link::states::Lost;
 use fb_message::command::{BootTarget, Command};
 use flash_plan::plan::Order;
+use host_driver::ask::ask;
+use host_driver::begin::begin;
+use host_driver::drive::DriveError;
+use host_driver::lines::{put_retry, put_step};
+use host_driver::log_port::LogPort;
+use host_driver::step::take;
 use std::alloc::Global;
 use std::test::Fail;
 
