@@ -37,16 +37,7 @@ all-below n (x ∷ us) h =
     here true e = e
     here false e = let c = times_in-cons x x us in let z = h x (grind (arith, nat_tests)) in absurd (grind (arith, nat_tests))
 
--- units of which none is among the changed ones
-pub units-same : (s : SuperPart) (old new : List ℕ) (us : List ℕ) → ((u : ℕ) → 0 < times_in u us → unit_bytes s new u ≡ unit_bytes s old u) → units_bytes s new us ≡ units_bytes s old us
-unfolding units_bytes
-units-same s old new [] h = refl
-units-same s old new (x ∷ us) h =
-    let c = times_in-cons x x us in
-    let one = h x (grind (arith, nat_tests)) in
-    let more = units-same s old new us (λ u k. h u (let c = times_in-cons u x us in omega arith)) in
-    λ i. one i ++ more i
-
+-- units one after another
 pub units-append : (s : SuperPart) (super xs ys : List ℕ) → units_bytes s super (xs ++ ys) ≡ units_bytes s super xs ++ units_bytes s super ys
 unfolding units_bytes
 units-append s super [] ys = refl

@@ -34,11 +34,6 @@ use Rattle.dev_store.proofs.ChangeCreate.{create-after, create-before}
 use Rattle.dev_store.proofs.ChangeFill.{resize-touched, resize-filled, create-touched, create-filled, resize-holds, create-holds}
 use Rattle.dev_store.specs.TableChanges.{LiesIn, IsStoreSuper, regrown}
 
--- over an image that isn't told a device is that of zeros
-pub held-file : (layout : LayoutValue) (state : State) (c : Content) (image : Option (List ℕ)) → device_held layout state (Some c) image ≡ device_in layout state c (file_or_zeros layout image)
-unfolding device_held
-held-file layout state c image = refl
-
 -- units of zeros are zeros
 padded-zeros : (layout : LayoutValue) (s : SuperPart) (units : List ℕ) (from size n : ℕ) → from ≤ size → size ≤ length (units_bytes s (super_bytes layout s (zeros n)) units) →
     take (size - from) (drop from (units_bytes s (super_bytes layout s (zeros n)) units)) ≡ zeros (size - from)
@@ -61,9 +56,8 @@ filled-zeros layout s f ps name units from size n h k lies = record {
 
 -- a device of an image that isn't told has zeros alone
 zeroed-is : (layout : LayoutValue) (state : State) (c : Content) (dev : Dev) → device_in layout state c (zeros (image_size layout)) ≡ dev → device_held layout state (Some c) None ≡ seen None dev
-unfolding seen
-zeroed-is layout state c dev e =
-    held-zeroed layout state (Some c) ∙ ap zeroed (held-file layout state c None ∙ e)
+unfolding device_held seen
+zeroed-is layout state c dev e = held-zeroed layout state (Some c) ∙ ap zeroed e
 
 told-is : (layout : LayoutValue) (state : State) (c : Content) (file : List ℕ) (dev : Dev) → device_in layout state c file ≡ dev → device_held layout state (Some c) (Some file) ≡ seen (Some file) dev
 unfolding seen

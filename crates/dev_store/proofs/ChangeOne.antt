@@ -1,5 +1,5 @@
 -- A store of which one part of the map has another list.
-use Rattle.std.proofs.Common.{◌≡◌, ◌≢◌, ◌∙◌, ap, sym, ℕ, zero, suc, ◌+◌, ◌-◌, ◌<◌, ◌≤◌, Bool, true, false, List, [], ◌∷◌, ◌++◌, length, take, arith, Some, append-nil}
+use Rattle.std.proofs.Common.{◌≡◌, ◌≢◌, ◌∙◌, ap, sym, ℕ, zero, suc, ◌-◌, ◌<◌, ◌≤◌, Bool, true, false, List, [], ◌∷◌, ◌++◌, length, take, arith, Some, append-nil}
 use Rattle.std.specs.Prelude.{◌==◌, nat_lt, slice_get, IsFalse}
 use Rattle.std.specs.List.{list_all, list_any, position_or_len}
 use Rattle.std.proofs.lemmas.List.{take_all, get_or-set_other}
@@ -7,9 +7,9 @@ use Rattle.std.proofs.lemmas.Option.{slice_get_within}
 use Rattle.std.proofs.lemmas.Bool.Decides.{nat_tests}
 use Rattle.dev_model.proofs.Valid.{or-left, or-right}
 use Rattle.dev_model.specs.declared.device.Logical.{Logical}
-use Rattle.unit_alloc.specs.Owning.{Owning, OneOwner, times_in, free_units, with_units, units_of, kept, handed}
+use Rattle.unit_alloc.specs.Owning.{Owning, OneOwner, free_units, with_units, units_of, kept, handed}
 use Rattle.dev_store.proofs.ChangeNamed.{by_name, at-name}
-use Rattle.dev_store.proofs.ChangeUnits.{AreOnce, named-own, named-other, times-named, times-of}
+use Rattle.dev_store.proofs.ChangeUnits.{AreOnce, named-own, named-other, times-of}
 use Rattle.dev_store.proofs.ChangeBytes.{all-below}
 use Rattle.dev_store.specs.TableChanges.{regrown}
 
@@ -28,24 +28,18 @@ any-at [] i part h = let w = slice_get_within [] i part h in absurd (omega arith
 any-at (p ∷ parts) zero part h = let e : p ≡ part = cc in or-left (p == part) _ (grind (arith, nat_tests))
 any-at (p ∷ parts) (suc i) part h = or-right (p == part) _ (any-at parts i part h)
 
--- What is so of the units by names where one part has another list, and all is as it must be of a map.
+-- What is so of the units by names where one part has another list.
 pub record IsOneChanged (o now : Owning) (parts : List ℕ) (logical : List Logical) (name list : List ℕ) : Type 0 where
   pub own : by_name now parts logical name ≡ list
   pub others : (other : List ℕ) → other ≢ name → by_name now parts logical other ≡ by_name o parts logical other
-  pub apart : (other : List ℕ) → other ≢ name → (u : ℕ) → times_in u list + times_in u (by_name now parts logical other) ≤ 1
 
 pub one-changed : (o now : Owning) (parts : List ℕ) (logical : List Logical) (name list : List ℕ) (part : ℕ) → length parts ≡ length logical → AreOnce parts →
-    slice_get parts (position_or_len (at-name name) logical) ≡ Some part → part < length o.parts → now ≡ with_units o part list → OneOwner now → IsOneChanged o now parts logical name list
-one-changed o now parts logical name list part many once at inside e one =
+    slice_get parts (position_or_len (at-name name) logical) ≡ Some part → part < length o.parts → now ≡ with_units o part list → IsOneChanged o now parts logical name list
+one-changed o now parts logical name list part many once at inside e =
     let own : by_name now parts logical name ≡ list = ap (λ q. by_name q parts logical name) e ∙ named-own o parts logical name list part many inside at in
     record {
       own = own;
       others = λ other ne. ap (λ q. by_name q parts logical other) e ∙ named-other o parts logical name other list part many once ne at;
-      apart = λ other ne u.
-          let t = times-named u now parts logical name other many once ne in
-          let w = ap (times_in u) own in
-          let n = one.once u in
-          omega arith;
     }
 
 -- units that partitions have are there

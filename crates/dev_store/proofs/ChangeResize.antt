@@ -192,7 +192,7 @@ module _ (layout : LayoutValue) (s : SuperPart) (state : State) (c : Content) (o
   pub resized-one : IsOneChanged o now parts (device_in layout state c old).logical name (regrown-list o part (units_for s.unit (round_up size)))
   resized-one =
       one-changed o now parts (device_in layout state c old).logical name (regrown-list o part (units_for s.unit (round_up size))) part (store-many layout s state c o parts old h) h.mapped.apart at
-      (part-inside s c o parts (position_or_len (at-name name) (device_in layout state c old).logical) part h.mapped at) e one
+      (part-inside s c o parts (position_or_len (at-name name) (device_in layout state c old).logical) part h.mapped at) e
 
   pub resized-many : length (by_name now parts (device_in layout state c old).logical name) ≡ units_for s.unit (round_up size)
   resized-many = ap length resized-one.own ∙ grown-many (units_of o part) (free_units o) (units_for s.unit (round_up size)) room
@@ -271,7 +271,7 @@ resize-before layout s state c o now parts old new name part len count h at e on
     let inside = part-inside s c o parts (position_or_len (at-name name) dev.logical) part h.mapped at in
     let f = by_name o parts dev.logical in
     let is : f name ≡ own = part-own o parts dev.logical name part many at in
-    let ch = one-changed o now parts dev.logical name list part many h.mapped.apart at inside e one in
+    let ch = one-changed o now parts dev.logical name list part many h.mapped.apart at inside e in
     let four = d.bounded.unit in
     let pos : 0 < s.unit = omega arith in
     let now-is : units_of now part ≡ list = sym (part-own now parts dev.logical name part many at) ∙ ch.own in

@@ -8,7 +8,7 @@ use Rattle.std.proofs.lemmas.Bool.Decides.{leb_tells}
 use Rattle.std.proofs.lemmas.Slice.Eq.{bytes_eq-Decides}
 use Rattle.dev_model.specs.declared.device.Logical.{Logical}
 use Rattle.unit_alloc.specs.Owning.{Owning, times, times_in, with_units, units_of}
-use Rattle.unit_alloc.proofs.TimesLemmas.{times_in-nil, times-set, times_in-le-times}
+use Rattle.unit_alloc.proofs.TimesLemmas.{times_in-nil, times_in-le-times}
 use Rattle.dev_store.specs.Held.{units_by}
 use Rattle.dev_store.proofs.ChangeNamed.{by_name, at-name, by-place}
 
@@ -65,50 +65,13 @@ named-other o parts logical name other list part many once ne g =
         ∙ (with-other o part k list (parts-differ parts logical name other k part many once ne g e) ∙ sym (ap (units_by (Some o)) e))
     by (inr (l, e)) = ap (units_by (Some (with_units o part list))) e ∙ sym (ap (units_by (Some o)) e)
 
--- two parts have no unit together more often than all
+-- a part has a unit at most as often as all have it
 times-part : (u : ℕ) (o : Owning) (p : ℕ) → times_in u (units_of o p) ≤ times u o.parts
 times-part u o p = by (leb_tells (length o.parts) p)
   where
     by : ((nat_le (length o.parts) p ≡ true) × (length o.parts ≤ p)) ⊎ ((nat_le (length o.parts) p ≡ false) × (p < length o.parts)) → times_in u (units_of o p) ≤ times u o.parts
     by (inl (e, h)) = let z = ap (times_in u) (get_or_past o.parts p [] h) in let n = times_in-nil u in omega arith
     by (inr (e, h)) = times_in-le-times u o.parts p h
-
-pub times-two : (u : ℕ) (o : Owning) (p q : ℕ) → q ≢ p → times_in u (units_of o p) + times_in u (units_of o q) ≤ times u o.parts
-times-two u o p q ne = by (leb_tells (length o.parts) p)
-  where
-    by : ((nat_le (length o.parts) p ≡ true) × (length o.parts ≤ p)) ⊎ ((nat_le (length o.parts) p ≡ false) × (p < length o.parts)) → times_in u (units_of o p) + times_in u (units_of o q) ≤ times u o.parts
-    by (inl (e, h)) = let z = ap (times_in u) (get_or_past o.parts p [] h) in let n = times_in-nil u in let t = times-part u o q in omega arith
-    by (inr (e, h)) =
-        let s = times-set u o.parts p [] h in
-        let n = times_in-nil u in
-        let t = times-part u (with_units o p []) q in
-        let w = ap (times_in u) (with-other o p q [] ne) in
-        omega arith
-
--- so do partitions of different names
-pub times-named : (u : ℕ) (o : Owning) (parts : List ℕ) (logical : List Logical) (name other : List ℕ) → length parts ≡ length logical → AreOnce parts → other ≢ name →
-    times_in u (by_name o parts logical name) + times_in u (by_name o parts logical other) ≤ times u o.parts
-times-named u o parts logical name other many once ne = by (slice_get_cases parts (position_or_len (at-name name) logical)).1 (slice_get_cases parts (position_or_len (at-name other) logical)).1
-  where
-    none : (name : List ℕ) → slice_get parts (position_or_len (at-name name) logical) ≡ None → times_in u (by_name o parts logical name) ≡ 0
-    none name e = ap (times_in u) (by-place o parts logical name many ∙ ap (units_by (Some o)) e) ∙ times_in-nil u
-
-    some : (name : List ℕ) (k : ℕ) → slice_get parts (position_or_len (at-name name) logical) ≡ Some k → times_in u (by_name o parts logical name) ≡ times_in u (units_of o k)
-    some name k e = ap (times_in u) (by-place o parts logical name many ∙ ap (units_by (Some o)) e)
-
-    by : ((k : ℕ) × (position_or_len (at-name name) logical < length parts) × (slice_get parts (position_or_len (at-name name) logical) ≡ Some k)
-        × (get_or parts (position_or_len (at-name name) logical) k ≡ k)) ⊎ ((length parts ≤ position_or_len (at-name name) logical) × (slice_get parts (position_or_len (at-name name) logical) ≡ None)) →
-        ((k : ℕ) × (position_or_len (at-name other) logical < length parts) × (slice_get parts (position_or_len (at-name other) logical) ≡ Some k)
-        × (get_or parts (position_or_len (at-name other) logical) k ≡ k)) ⊎ ((length parts ≤ position_or_len (at-name other) logical) × (slice_get parts (position_or_len (at-name other) logical) ≡ None)) →
-        times_in u (by_name o parts logical name) + times_in u (by_name o parts logical other) ≤ times u o.parts
-    by (inl (p, l, e, a)) (inl (q, m, f, b)) =
-        let x = some name p e in
-        let y = some other q f in
-        let t = times-two u o p q (parts-differ parts logical name other q p many once ne e f) in
-        omega arith
-    by (inl (p, l, e, a)) (inr (m, f)) = let x = some name p e in let y = none other f in let t = times-part u o p in omega arith
-    by (inr (l, e)) (inl (q, m, f, b)) = let x = none name e in let y = some other q f in let t = times-part u o q in omega arith
-    by (inr (l, e)) (inr (m, f)) = let x = none name e in let y = none other f in omega arith
 
 -- a partition has a unit at most as often as all have it
 pub times-of : (u : ℕ) (o : Owning) (parts : List ℕ) (logical : List Logical) (name : List ℕ) → length parts ≡ length logical → times_in u (by_name o parts logical name) ≤ times u o.parts
