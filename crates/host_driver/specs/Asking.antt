@@ -41,7 +41,8 @@ Tells name (Err refusal) dev = (asked dev name ≡ None) × (refusal ≡ codes "
 abbrev pub lines_to : Dev → List ℕ → List (List ℕ)
 lines_to dev name = map shown_line (infos_to dev name)
 
--- The question was answered: a told device is as it was, and has this text; all lines of its answer were shown.
+-- The question was answered: a told device is as it was, and has this text; all lines of its answer were
+-- shown.
 pub record IsAsked (name : List ℕ) (answer : Told) (old new : Seen) : Type 0 where
   pub told : OfTold old.port.peer new.port.peer (λ s t. (t ≡ s) × Tells name answer s)
   pub serving : (spare : ℕ) → Serving (4104 + spare) old.port.peer → Serving spare new.port.peer
@@ -68,7 +69,8 @@ pub record IsCutIn (lines : List (List ℕ)) (before now : List ℕ) : Type 0 wh
   pub short : n < length line
   pub grew : now ≡ before ++ (joined (take count lines) ++ take n line)
 
--- what was shown of lines where an attempt broke off with this error: amid a line only where the output failed
+-- what was shown of lines where an attempt broke off with this error: amid a line only where the output
+-- failed
 abbrev pub ShowsBy : List (List ℕ) → DriveError → Option (List ℕ) → Option (List ℕ) → Type 0
 ShowsBy lines stop.Output before now = Both (IsCutIn lines) before now
 ShowsBy lines _ before now = ShowsSome lines before now
@@ -78,7 +80,8 @@ abbrev pub IsUnrefused : DriveError → Type 0
 IsUnrefused (stop.Refused text) = ⊥
 IsUnrefused _ = Unit {0}
 
--- The attempt broke off in a question with this error, and the connection is down. A told device is as it was.
+-- The attempt broke off in a question with this error, and the connection is down. A told device is as it
+-- was.
 pub record IsUnasked (name : List ℕ) (old new : Seen) (error : DriveError) : Type 0 where
   pub why : WhyStopped NoFiles old.port new.port error
   pub unrefused : IsUnrefused error

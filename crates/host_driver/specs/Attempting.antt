@@ -32,8 +32,8 @@ pub record IsAlong (plan : Lined) (count : ℕ) (old new : Seen) : Type 0 where
   pub grows : Grows old.text new.text
   pub kept : Kept old.port new.port
 
--- The attempt broke off with so many steps printed: what it left of the device, which halted only where a disk
--- call failed, and what was printed.
+-- The attempt broke off with so many steps printed: what it left of the device, which halted only where a
+-- disk call failed, and what was printed.
 pub record IsLeftAlong (plan : Lined) (count : ℕ) (old new : Seen) : Type 0 where
   pub left : OfTold old.port.peer new.port.peer (λ s t. LeftBehind plan.steps s count t)
   pub halted : OfTold old.port.peer new.port.peer (λ s t.

@@ -1,5 +1,5 @@
--- A step of a plan by its command, over a connection: what it comes to where it is acknowledged, and where the
--- attempt breaks off in it.
+-- A step of a plan by its command, over a connection: what it comes to where it is acknowledged, and where
+-- the attempt breaks off in it.
 use Rattle.std.specs.Prelude.{◌≡◌, ◌⊎◌, ℕ, ◌+◌, List, [], ◌∷◌, Option, None, IsTrue, IsFalse}
 use Rattle.std.specs.Prelude.{unwrap_or}
 use Rattle.fb_frame.specs.Causes.{Rose}
@@ -57,8 +57,8 @@ stop_of (link.BadLength n) = stop.Peer (head n)
 stop_of (link.BadReply reply) = stop.Peer reply
 stop_of link.TooManyInfos = stop.TooManyInfos
 
--- The step was acknowledged: a told device took it, and nothing was shown. It took at most `cost` bytes of the
--- connection, and a told log grew by what it wires.
+-- The step was acknowledged: a told device took it, and nothing was shown. It took at most `cost` bytes of
+-- the connection, and a told log grew by what it wires.
 pub record IsStepped (cost : ℕ) (Wires : List ℕ → Type 0) (step : Step) (old new : Seen) : Type 0 where
   pub took : OfTold old.port.peer new.port.peer (TookStep step)
   pub serving : IsFalse (is_boot step) → (spare : ℕ) → Serving (cost + spare) old.port.peer
@@ -69,8 +69,8 @@ pub record IsStepped (cost : ℕ) (Wires : List ℕ → Type 0) (step : Step) (o
   pub log : LogGrew old.port.log new.port.log Wires
   pub kept : Kept old.port new.port
 
--- What is left of a device where an attempt broke off in a step: what an attempt at this step alone leaves. It
--- halts only where `broke` holds.
+-- What is left of a device where an attempt broke off in a step: what an attempt at this step alone leaves.
+-- It halts only where `broke` holds.
 pub record IsBrokenIn (step : Step) (broke : Type 0) (s t : Dev) : Type 0 where
   pub left : LeftBehind (step ∷ []) s 0 t
   pub halted : t.mode ≡ Halted → broke

@@ -5,8 +5,8 @@ use std::alloc::Global;
 use std::marker::Model;
 
 /// A port that tells what its port tells, and besides it a log of the bytes sent over all connections, which
-/// stands in a buffer. Contracts see the port, the log, how many bytes the buffer has, which buffer it is, and
-/// how many sends were refused for want of room.
+/// stands in a buffer. Contracts see the port, the log, how many bytes the buffer has, which buffer it is,
+/// and how many sends were refused for want of room.
 #[derive(Drop)]
 pub struct LogPort<'a, P: Port> {
     port: P,
