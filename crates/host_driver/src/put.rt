@@ -41,12 +41,13 @@ pub fn put<P: Port, B: Bytes, S: Sink>(
       most = most;
       told = B.content source.old;
     }) (seen (P.told ready) (S.text shown.old)) (seen (P.told r) (S.text shown.new))) }
-    ensures breaks { IfErr result (λ e. PutBreaks (IsUnread file.now (B.faults source.old) (B.faults source.new)) (record {
-      name = name.now;
-      kept = index.now;
-      most = most;
-      told = B.content source.old;
-    }) (seen (P.told ready) (S.text shown.old)) (seen (P.told e.0) (S.text shown.new)) e.1) }
+    ensures breaks { IfErr result (λ e. PutBreaks
+        (IsUnread file.now (B.faults source.old) (B.faults source.new)) (record {
+          name = name.now;
+          kept = index.now;
+          most = most;
+          told = B.content source.old;
+        }) (seen (P.told ready) (S.text shown.old)) (seen (P.told e.0) (S.text shown.new)) e.1) }
     ensures same { IfOk result (λ r. P.lent r ≡ P.lent ready) }
     ensures same_lost { IfErr result (λ e. P.lent e.0 ≡ P.lent ready) }
     ensures shown_later { S.faults shown.old ≤ S.faults shown.new }
