@@ -1,8 +1,6 @@
-//! Cases of devices: what steps make of them, what they answer to bytes, and super metadata as byte lists.
+//! Cases of devices: what steps make of them, and super metadata as byte lists.
 #![tactic(auto)]
 
-#[cfg(test)]
-mod device_answers;
 #[cfg(test)]
 mod device_steps;
 #[cfg(test)]

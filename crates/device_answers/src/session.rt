@@ -1,0 +1,140 @@
+use crate::device_lines::mode_of;
+use crate::payloads::payload_of;
+use dev_model::device::{Dev, Mode};
+use fb_frame::framing::frame_head;
+use fb_frame::memory::Memory;
+use std::alloc::{AllocError, Global};
+use std::fs;
+use std::rt::Files;
+use wire_model::served::Served1;
+use wire_model::serves::serves;
+
+/// What either end says first (fastboot README, TCP).
+const HANDSHAKE: &[u8] = b"FB01";
+
+/// A session: what a host sends, and what the device answers, is and holds after it.
+#[derive(Drop)]
+pub struct Session {
+    pub title: String,
+    sent: Vec<u8>,
+    answered: Vec<u8>,
+    closes: bool,
+    waits: bool,
+    mode: Option<Mode>,
+    left: Option<Vec<u8>>,
+}
+
+fn add_frame(stream: &mut Vec<u8>, payload: &[u8]) -> Result<(), AllocError> {
+    let head = frame_head(payload.len() as u64);
+    stream.extend_from_slice(head.as_slice())?;
+    stream.extend_from_slice(payload)?;
+    Ok(())
+}
+
+impl Session {
+    /// A session of handshakes alone, after which the connection is open.
+    pub fn new(alloc: Global, title: &str) -> Result<Session, AllocError> {
+        Ok(Session {
+            title: String::from_str(alloc, title)?,
+            sent: Vec::from_slice(alloc, HANDSHAKE)?,
+            answered: Vec::from_slice(alloc, HANDSHAKE)?,
+            closes: false,
+            waits: false,
+            mode: None,
+            left: None,
+        })
+    }
+
+    /// Takes a line of a session into it. False where it's none.
+    pub fn take<R: Files + Alloc<A = Global>>(
+        &mut self,
+        rt: &R,
+        word: &str,
+        text: &str,
+    ) -> anyhow::Result<bool> {
+        if let Some(payload) = payload_of(rt, word, text)? {
+            add_frame(&mut self.sent, payload.as_slice())?;
+            return Ok(true);
+        }
+        match word {
+            "handshake" => return self.shake(rt.alloc(), text),
+            "answers" => add_frame(&mut self.answered, text.as_bytes())?,
+            "leaves-file" => self.left = Some(fs::read(rt, text)?),
+            "leaves-mode" => return Ok(self.leave_mode(text)),
+            _ => return Ok(self.mark(word, text)),
+        }
+        Ok(true)
+    }
+
+    /// Another handshake of the host's, before all else that it sends.
+    fn shake(&mut self, alloc: Global, text: &str) -> anyhow::Result<bool> {
+        if self.sent.as_slice() != HANDSHAKE {
+            return Ok(false);
+        }
+        self.sent = Vec::from_slice(alloc, text.as_bytes())?;
+        Ok(true)
+    }
+
+    fn leave_mode(&mut self, text: &str) -> bool {
+        self.mode = mode_of(text);
+        self.mode.is_some()
+    }
+
+    /// Takes a line of one word.
+    fn mark(&mut self, word: &str, text: &str) -> bool {
+        match (word, text) {
+            ("closes", "") => self.closes = true,
+            ("waits", "") => self.waits = true,
+            _ => return false,
+        }
+        true
+    }
+
+    /// What isn't as the session says, with the device as it is before it.
+    pub fn flaw(&self, alloc: Global, dev: &Dev) -> Result<Option<&'static str>, Memory> {
+        if self.waits && !waits(alloc, dev, self.sent.as_slice())? {
+            return Ok(Some("the device doesn't wait for the last byte"));
+        }
+        let served = serves(alloc, dev, self.sent.as_slice())?;
+        Ok(self.flaw_of(&served))
+    }
+
+    fn flaw_of(&self, served: &Served1) -> Option<&'static str> {
+        if served.out.as_slice() != self.answered.as_slice() {
+            return Some("the device answers otherwise");
+        }
+        if self.closes && !served.closed {
+            return Some("the connection stays open");
+        }
+        if served.closed && !self.closes {
+            return Some("the connection is closed");
+        }
+        if !self.mode.is_none_or(|mode| mode == served.after.mode) {
+            return Some("the device is in another mode");
+        }
+        if !self.is_left(&served.after) {
+            return Some("the partition holds other bytes");
+        }
+        None
+    }
+
+    /// Whether the device's one partition holds what the session says.
+    fn is_left(&self, dev: &Dev) -> bool {
+        match (&self.left, dev.physical.as_slice()) {
+            (None, _) => true,
+            (Some(left), [part]) => part.bytes.as_slice() == left.as_slice(),
+            _ => false,
+        }
+    }
+}
+
+/// Whether the device answers its handshake alone to each front of these bytes.
+fn waits(alloc: Global, dev: &Dev, sent: &[u8]) -> Result<bool, Memory> {
+    for n in 0..sent.len() {
+        let served = serves(alloc, dev, &sent[..n])?;
+        if served.out.as_slice() != HANDSHAKE {
+            return Ok(false);
+        }
+    }
+    Ok(true)
+}
