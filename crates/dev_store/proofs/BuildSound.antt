@@ -50,6 +50,11 @@ entries-same s c f g same (e ∷ es) (p ∷ logical) (units ∷ lists) h =
     let more = entries-same s c f g same es logical lists h.1 in
     λ i. one i ∷ more i
 
+-- the lengths of partitions, with their groups, are those that the table has
+pub entries-sizes : (s : SuperPart) (c : Content) (es : List Partition) (logical : List Logical) (lists : List (List ℕ)) → AreEntriesOf s c es logical lists → map (size_in c) es ≡ sizes_of logical
+entries-sizes s c es logical lists h =
+    entries-same s c (size_in c) (λ p. record { name = p.name; group = p.group; bytes = length p.bytes }) (λ e p units h. λ i. record { name = h.name i; group = h.group i; bytes = h.long i }) es logical lists h
+
 known-from : (s : SuperPart) (c : Content) (minor : ℕ) (groups : List TableGroup) (es : List Partition) (logical : List Logical) (lists : List (List ℕ)) → AreEntriesOf s c es logical lists →
     list_all (is_entry minor groups) logical ≡ true → list_all (λ p. are_attributes minor p.attributes) es ≡ true
 known-from s c minor groups [] [] [] h v = refl
@@ -143,8 +148,7 @@ good-written parts s dev lists b o g =
     let v = o.valid in
     let own = entries s dev lists b v g in
     let names : map (λ p. p.name) c.partitions ≡ map (λ p. p.name) dev.logical = entries-same s c (λ p. p.name) (λ p. p.name) (λ e p units h. h.name) c.partitions dev.logical lists own in
-    let sizes : map (size_in c) c.partitions ≡ sizes_of dev.logical = entries-same s c (size_in c) (λ p. record { name = p.name; group = p.group; bytes = length p.bytes })
-    (λ e p units h. λ i. record { name = h.name i; group = h.group i; bytes = h.long i }) c.partitions dev.logical lists own in
+    let sizes : map (size_in c) c.partitions ≡ sizes_of dev.logical = entries-sizes s c c.partitions dev.logical lists own in
     let units = flat-mapped (units_of s c) c.partitions ∙ ap (flat_map (λ units. units)) (entries-units s c c.partitions dev.logical lists own) in
     let many : length c.partitions ≡ length dev.logical = sym (length-map c.partitions (λ p. p.name)) ∙ (ap length names ∙ length-map dev.logical (λ p. p.name)) in
     let groups : length c.groups ≡ length dev.groups = length-map dev.groups as_group in

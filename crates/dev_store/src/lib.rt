@@ -11,6 +11,7 @@ ghost use Rattle.dev_store.specs.Rows.{Rows};
 
 mod entries;
 pub mod errors;
+mod group_limits;
 mod image_read;
 mod image_repair;
 pub mod layout;

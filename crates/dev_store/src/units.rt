@@ -197,7 +197,7 @@ pub(crate) fn bytes_in(extents: &[Extent]) -> u128
 }
 
 /// Whether a partition is in a group.
-fn is_in_group(table: &Table, partition: &Partition, group: &Group) -> bool
+pub(crate) fn is_in_group(table: &Table, partition: &Partition, group: &Group) -> bool
     ensures { result ≡ bytes_eq (group_name (content table.now).groups partition.now.group) group.now.name }
 {
     match table.groups.get(partition.group as usize) {
@@ -219,7 +219,7 @@ fn share(table: &Table, partition: &Partition, group: &Group) -> u128
 }
 
 /// How many bytes the partitions of a group hold together.
-fn group_bytes(table: &Table, group: &Group) -> u128
+pub(crate) fn group_bytes(table: &Table, group: &Group) -> u128
     requires { length (content table.now).partitions ≤ 128 }
     ensures { let c = content table.now in
         result ≡ group_bytes group.now.name (map (size_in c) c.partitions) }
