@@ -133,7 +133,7 @@ unlike : (x k : ℕ) → x ≢ k → (x == k) ≡ false
 unlike x k ne = grind (arith, nat_tests)
 
 -- what isn't left and isn't the one that was taken wasn't there
-any-without : (i : ℕ) (xs : List ℕ) (part k : ℕ) → slice_get xs i ≡ Some part → k ≢ part → list_any (λ p. p == k) (without i xs) ≡ false → list_any (λ p. p == k) xs ≡ false
+pub any-without : (i : ℕ) (xs : List ℕ) (part k : ℕ) → slice_get xs i ≡ Some part → k ≢ part → list_any (λ p. p == k) (without i xs) ≡ false → list_any (λ p. p == k) xs ≡ false
 any-without zero [] part k at ne h = refl
 any-without zero (x ∷ xs) part k at ne h =
     let w : x ≡ part = cc in
