@@ -56,6 +56,7 @@ mod variables_row;
 mod variables_show;
 mod variables_text;
 mod variables_told;
+mod zero_fill;
 
 /// Worked examples of the definitions.
 pub fn rows()
