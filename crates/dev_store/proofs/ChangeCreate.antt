@@ -148,7 +148,6 @@ any-push (p ∷ parts) part k h =
 module _ (layout : LayoutValue) (s : SuperPart) (state : State) (c : Content) (o now : Owning) (parts old name : List ℕ) (part count size : ℕ) (h : IsStoreSuper layout s state c o parts old)
     (free : list_any (λ p. p == part) parts ≡ false) (inside : part < 128) (e : now ≡ handed o part (take count (free_units o)))
     (fresh : not (among name (map (λ p. p.name) (device_in layout state c old).logical)) ≡ true) where
-
   -- the map has the new list for the part
   now-is : now ≡ with_units o part (take count (free_units o))
   now-is = e ∙ ap (λ l. with_units o part (l ++ take count (free_units o))) (h.mapped.empty part free)

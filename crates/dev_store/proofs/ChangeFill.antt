@@ -71,8 +71,7 @@ IsPut s old new g name change p =
 
 put-one : (s : SuperPart) (old new : List ℕ) (g : List ℕ → List ℕ) (name : List ℕ) (change : List ℕ → List ℕ) (p : Logical) → lying s new g p ≡ logical_changed name change (lying s old g p) → IsPut s old new g name change p
 put-one s old new g name change p h =
-    let b = ap (λ (q : Logical). q.bytes) h in
-    (
+    let b = ap (λ (q : Logical). q.bytes) h in (
       (λ e. b ∙ ap (λ t. (if t then change else λ x. x) (take (length p.bytes) (units_bytes s old (g p.name)))) ((bytes_eq-Decides p.name name).1 e)),
       (λ ne. b ∙ ap (λ t. (if t then change else λ x. x) (take (length p.bytes) (units_bytes s old (g p.name)))) (differ p.name name ne)),
     )
@@ -165,7 +164,6 @@ changed-back P name change (p ∷ ps) h = (by (bytes_eq p.name name) refl h.0, c
 
 -- the partitions of other names lie where they did
 module _ (s : SuperPart) (old new : List ℕ) (f g : List ℕ → List ℕ) (name : List ℕ) (change : List ℕ → List ℕ) (others : (other : List ℕ) → other ≢ name → g other ≡ f other) where
-
   lies-other : (p : Logical) → LiesIn s old p (f p.name) → (p.name ≢ name → IsPut s old new g name change p) → p.name ≢ name → LiesIn s new p (f p.name)
   lies-other p lies put ne =
       lies
@@ -220,7 +218,6 @@ physical-apart layout state c file name valid there =
 module _ (layout : LayoutValue) (s : SuperPart) (state : State) (c : Content) (o now : Owning) (parts old name : List ℕ) (part size : ℕ) (h : IsStoreSuper layout s state c o parts old)
     (at : slice_get parts (position_or_len (at-name name) (device_in layout state c old).logical) ≡ Some part) (e : now ≡ regrown o part (units_for s.unit (round_up size))) (one : OneOwner now)
     (room : units_for s.unit (round_up size) ≤ length (units_owned o part) + length (free_units o)) where
-
   pub resize-holds : round_up size ≤ length (units_bytes s (super_bytes layout s old) (units_owned now part))
   resize-holds =
       let dev = device_in layout state c old in
@@ -240,8 +237,7 @@ module _ (layout : LayoutValue) (s : SuperPart) (state : State) (c : Content) (o
     (room : units_for s.unit (round_up size) ≤ length (units_owned o part) + length (free_units o)) (there : list_any (at-name name) (device_in layout state c old).logical ≡ true)
     (new : List ℕ) (len : ℕ) (bytes : List ℕ) (same : length new ≡ length old)
     (put : device_in layout state (table_for s (apply (Resize name size) (device_in layout state c old)) (map (units_owned now) parts)) new
-      ≡ put_at name len bytes (device_in layout state (table_for s (apply (Resize name size) (device_in layout state c old)) (map (units_owned now) parts)) old)) where
-
+    ≡ put_at name len bytes (device_in layout state (table_for s (apply (Resize name size) (device_in layout state c old)) (map (units_owned now) parts)) old)) where
   -- what was put in each partition of the next table
   resize-puts : AllByRecursion (IsPut s (super_bytes layout s old) (super_bytes layout s new) (by_name now parts (device_in layout state c old).logical) name (λ b. written b len bytes))
       (apply (Resize name size) (device_in layout state c old)).logical
@@ -313,7 +309,6 @@ module _ (layout : LayoutValue) (s : SuperPart) (state : State) (c : Content) (o
     (free : list_any (λ p. p == part) parts ≡ false) (inside : part < 128) (e : now ≡ handed o part (take count (free_units o)))
     (fresh : not (among name (map (λ p. p.name) (device_in layout state c old).logical)) ≡ true)
     (one : OneOwner now) (needs : count ≡ units_for s.unit (round_up size)) (room : count ≤ length (free_units o)) (group : is_group (device_in layout state c old).groups (codes "default") ≡ true) where
-
   pub create-holds : round_up size ≤ length (units_bytes s (super_bytes layout s old) (units_owned now part))
   create-holds =
       let dev = device_in layout state c old in
@@ -335,8 +330,7 @@ module _ (layout : LayoutValue) (s : SuperPart) (state : State) (c : Content) (o
     (one : OneOwner now) (needs : count ≡ units_for s.unit (round_up size)) (room : count ≤ length (free_units o)) (group : is_group (device_in layout state c old).groups (codes "default") ≡ true)
     (new : List ℕ) (bytes : List ℕ) (same : length new ≡ length old)
     (put : device_in layout state (table_for s (created name size (device_in layout state c old)) (map (units_owned now) (parts ++ part ∷ []))) new
-      ≡ put_at name 0 bytes (device_in layout state (table_for s (created name size (device_in layout state c old)) (map (units_owned now) (parts ++ part ∷ []))) old)) where
-
+    ≡ put_at name 0 bytes (device_in layout state (table_for s (created name size (device_in layout state c old)) (map (units_owned now) (parts ++ part ∷ []))) old)) where
   create-puts : AllByRecursion (IsPut s (super_bytes layout s old) (super_bytes layout s new) (by_name now (parts ++ part ∷ []) ((device_in layout state c old).logical ++ new_logical name size ∷ [])) name (λ b. written b 0 bytes))
       ((device_in layout state c old).logical ++ new_logical name size ∷ [])
   create-puts =

@@ -70,7 +70,6 @@ seen-told file dev = refl
 -- A partition gets another length over an image: the device of the next table, and of the one before.
 module _ (layout : LayoutValue) (s : SuperPart) (state : State) (c : Content) (o now : Owning) (parts name : List ℕ) (part size : ℕ) (e : now ≡ regrown o part (units_for s.unit (round_up size))) (one : OneOwner now)
     (room : units_for s.unit (round_up size) ≤ length (units_of o part) + length (free_units o)) where
-
   -- the table that is written
   abbrev pub resized-table : Option (List ℕ) → Content
   resized-table image = table_for s (apply (Resize name size) (device_held layout state (Some c) image)) (map (units_of now) parts)
@@ -141,7 +140,6 @@ module _ (layout : LayoutValue) (s : SuperPart) (state : State) (c : Content) (o
 module _ (layout : LayoutValue) (s : SuperPart) (state : State) (c : Content) (o now : Owning) (parts name : List ℕ) (part count size : ℕ)
     (free : list_any (λ p. p == part) parts ≡ false) (inside : part < 128) (e : now ≡ handed o part (take count (free_units o)))
     (one : OneOwner now) (needs : count ≡ units_for s.unit (round_up size)) (room : count ≤ length (free_units o)) where
-
   -- the table that is written
   abbrev pub created-table : Option (List ℕ) → Content
   created-table image = table_for s (created name size (device_held layout state (Some c) image)) (map (units_of now) (parts ++ part ∷ []))

@@ -75,9 +75,10 @@ old-held : (s : SuperPart) (super : List ℕ) (f : List ℕ → List ℕ) (all s
     AllByRecursion (λ p. IsHeldIn s super p (f p.name)) some → AllByRecursion (λ p. IsHeldIn s super p (kept_units f all p.name)) some
 old-held s super f all [] sub h = tt
 old-held s super f all (p ∷ some) sub h =
-    let own : list_any (at-name p.name) (p ∷ some) ≡ true = or-left (bytes_eq p.name p.name) _ ((bytes_eq-Decides p.name p.name).1 refl) in
-    (subst (IsHeldIn s super p) (sym (ap (λ b. if b then f p.name else []) (sub p own))) h.0,
-    old-held s super f all some (λ q k. sub q (or-right (bytes_eq p.name q.name) _ k)) h.1)
+    let own : list_any (at-name p.name) (p ∷ some) ≡ true = or-left (bytes_eq p.name p.name) _ ((bytes_eq-Decides p.name p.name).1 refl) in (
+      subst (IsHeldIn s super p) (sym (ap (λ b. if b then f p.name else []) (sub p own))) h.0,
+      old-held s super f all some (λ q k. sub q (or-right (bytes_eq p.name q.name) _ k)) h.1,
+    )
 
 -- what is so of all is so of those that pass a test, and of two lists in turn
 all-passed : (P : Logical → Type 0) (test : Logical → Bool) (ps : List Logical) → AllByRecursion P ps → AllByRecursion P (filter test ps)

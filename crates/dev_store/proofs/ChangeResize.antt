@@ -46,7 +46,6 @@ module _ (layout : LayoutValue) (s : SuperPart) (old new : List ℕ) (f g : List
     (others : (other : List ℕ) → other ≢ name → g other ≡ f other)
     (kept : take len (units_bytes s (super_bytes layout s new) (g name)) ≡ take len (units_bytes s (super_bytes layout s old) (g name)))
     (padded : take (size - len) (drop len (units_bytes s (super_bytes layout s new) (g name))) ≡ zeros (size - len)) where
-
   -- the one of the name lies in its new units
   own-after : (p : Logical) → p.name ≡ name → length p.bytes ≡ len → IsFitted s.unit p (f p.name) → LiesIn s (super_bytes layout s old) p (f p.name) →
       LiesIn s (super_bytes layout s new) (record p { bytes = cut_or_padded size p.bytes }) (g p.name)
@@ -78,7 +77,6 @@ module _ (layout : LayoutValue) (s : SuperPart) (old new : List ℕ) (f g : List
 
 module _ (unit : ℕ) (f g : List ℕ → List ℕ) (name : List ℕ) (count size : ℕ) (many : count ≡ units_for unit size) (whole : size % 4096 ≡ 0) (enough : length (g name) ≡ count)
     (others : (other : List ℕ) → other ≢ name → g other ≡ f other) where
-
   -- each partition has as many units as it needs
   fit-after : (p : Logical) → IsFitted unit p (f p.name) → (b : Bool) → bytes_eq p.name name ≡ b → IsFitted unit (record p { bytes = (if b then cut_or_padded size else λ bytes. bytes) p.bytes }) (g p.name)
   fit-after p fit true e =
@@ -99,7 +97,6 @@ module _ (unit : ℕ) (f g : List ℕ → List ℕ) (name : List ℕ) (count siz
 module _ (layout : LayoutValue) (s : SuperPart) (old new : List ℕ) (f : List ℕ → List ℕ) (name list : List ℕ) (long : length (super_bytes layout s old) ≡ s.size)
     (long-new : length (super_bytes layout s new) ≡ s.size) (pos : 0 < s.unit) (below : list_all (λ u. nat_lt u (unit_count s)) (f name) ≡ true) (len : ℕ) (more : List ℕ) (own : list ≡ f name ++ more)
     (kept : take len (units_bytes s (super_bytes layout s new) list) ≡ take len (units_bytes s (super_bytes layout s old) list)) where
-
   -- each partition still lies in its units, where only bytes after those of the name changed
   part-before : (p : Logical) → (p.name ≡ name → length p.bytes ≡ len) → IsFitted s.unit p (f p.name) → LiesIn s (super_bytes layout s old) p (f p.name) →
       (p.name ≢ name → LiesIn s (super_bytes layout s new) p (f p.name)) → (b : Bool) → bytes_eq p.name name ≡ b → LiesIn s (super_bytes layout s new) p (f p.name)
@@ -188,7 +185,6 @@ resized-names name size ps = map-same (logical_changed name (cut_or_padded size)
 module _ (layout : LayoutValue) (s : SuperPart) (state : State) (c : Content) (o now : Owning) (parts old name : List ℕ) (part size : ℕ) (h : IsStoreSuper layout s state c o parts old)
     (at : slice_get parts (position_or_len (at-name name) (device_in layout state c old).logical) ≡ Some part) (e : now ≡ regrown o part (units_for s.unit (round_up size))) (one : OneOwner now)
     (room : units_for s.unit (round_up size) ≤ length (units_of o part) + length (free_units o)) where
-
   pub resized-one : IsOneChanged o now parts (device_in layout state c old).logical name (regrown-list o part (units_for s.unit (round_up size)))
   resized-one =
       one-changed o now parts (device_in layout state c old).logical name (regrown-list o part (units_for s.unit (round_up size))) part (store-many layout s state c o parts old h) h.mapped.apart at
@@ -259,7 +255,7 @@ module _ (layout : LayoutValue) (s : SuperPart) (state : State) (c : Content) (o
 -- the device before, while bytes after those of the partition change in the units that it is to have
 pub resize-before : (layout : LayoutValue) (s : SuperPart) (state : State) (c : Content) (o now : Owning) (parts old new name : List ℕ) (part len count : ℕ) → IsStoreSuper layout s state c o parts old →
     slice_get parts (position_or_len (at-name name) (device_in layout state c old).logical) ≡ Some part → now ≡ regrown o part count → OneOwner now → length (units_of o part) ≤ count →
-    IsLong name len (device_in layout state c old).logical → 
+    IsLong name len (device_in layout state c old).logical →
     IsTouched layout s (by_name o parts (device_in layout state c old).logical) (device_in layout state c old).logical name (units_of now part) len old new → device_in layout state c new ≡ device_in layout state c old
 resize-before layout s state c o now parts old new name part len count h at e one grows n tail =
     let dev = device_in layout state c old in

@@ -39,7 +39,6 @@ module _ (layout : LayoutValue) (s : SuperPart) (state : State) (c : Content) (o
     (room : units_for s.unit (round_up size) ≤ length (units_of o part) + length (free_units o))
     (kept : IsKept layout state (Some (table_for s (apply (Resize name size) (device_held layout state (Some c) old)) (map (units_of now) parts))) old)
     (units : AreUnitsAt (parts_end layout.physical) s now part (round_up size) u) (len : ℕ) (long : IsLong name len (device_held layout state (Some c) old).logical) where
-
   -- the next table has the partition
   resize-there : AreUnitsIn (parts_end layout.physical) layout.super_part (Some (table_for s (apply (Resize name size) (device_held layout state (Some c) old)) (map (units_of now) parts))) name u
   unfolding device_held
@@ -77,7 +76,6 @@ module _ (layout : LayoutValue) (s : SuperPart) (state : State) (c : Content) (o
     (group : is_group (device_held layout state (Some c) old).groups (codes "default") ≡ true)
     (kept : IsKept layout state (Some (table_for s (created name size (device_held layout state (Some c) old)) (map (units_of now) (parts ++ part ∷ [])))) old)
     (units : AreUnitsAt (parts_end layout.physical) s now part (round_up size) u) where
-
   -- the next table has the partition
   create-there : AreUnitsIn (parts_end layout.physical) layout.super_part (Some (table_for s (created name size (device_held layout state (Some c) old)) (map (units_of now) (parts ++ part ∷ [])))) name u
   unfolding device_held

@@ -1,4 +1,4 @@
--- What the table that is written says of each partition, and which bytes a change of the table writes.
+-- What the table that is written says of each partition, and the map of units for which it is written.
 use Rattle.std.specs.Prelude.{◌≡◌, ℕ, ◌-◌, ◌%◌, List, [], ◌∷◌, ◌++◌, length, take, Some}
 use Rattle.dev_model.specs.declared.device.Logical.{Logical}
 use Rattle.dev_model.specs.Sizes.{units_for}
