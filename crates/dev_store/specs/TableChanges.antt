@@ -15,7 +15,8 @@ use Rattle.dev_store.specs.declared.state.State.{State}
 use Rattle.dev_store.specs.Held.{IsKept}
 
 -- an entry of a table is that of a partition with these units
-pub record IsEntryOf (s : SuperPart) (c : Content) (e : Partition) (p : Logical) (list : List ℕ) : Type 0 where
+pub record IsEntryOf (s : SuperPart) (c : Content) (e : Partition) (p : Logical)
+    (list : List ℕ) : Type 0 where
   pub name : e.name ≡ p.name
   pub attributes : e.attributes ≡ p.attributes
   pub group : group_name c.groups e.group ≡ p.group
