@@ -18,7 +18,12 @@ use dev_disk::disk::{CreateError, Disk, DiskFault};
 use std::alloc::Global;
 
 /// Writes a block `count` times in a row, from the place `at` on.
-pub fn write_copies<K: Disk>(disk: &mut K, at: u64, block: &[u8], count: u32) -> Result<(), DiskFault>
+pub fn write_copies<K: Disk>(
+    disk: &mut K,
+    at: u64,
+    block: &[u8],
+    count: u32,
+) -> Result<(), DiskFault>
     requires inside { IsInside (K.told disk.old).open_length at (count * length block.now) }
     requires small { at + count * length block.now < 2 ^ 64 }
     ensures writes { OnOk result (Writes (K.told disk.old) (K.told disk.new) at (copies count block.now)) }
