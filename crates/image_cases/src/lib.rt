@@ -11,3 +11,5 @@ mod openings;
 mod readings;
 #[cfg(test)]
 mod states;
+#[cfg(test)]
+mod store_parts;

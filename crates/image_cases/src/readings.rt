@@ -26,7 +26,7 @@ const FIRST: u64 = 152;
 const RANGES: [u32; 12] = [0, 2, 52, 104, 3, 24, 176, 1, 48, 224, 1, 64];
 
 /// Bytes over those from a place on.
-fn put(bytes: &mut Vec<u8>, at: usize, new: &[u8]) {
+pub fn put(bytes: &mut Vec<u8>, at: usize, new: &[u8]) {
     for (place, byte) in new.iter().enumerate() {
         if let Some(old) = bytes.get_mut(at.saturating_add(place)) {
             *old = *byte;
@@ -84,7 +84,7 @@ fn table_of(alloc: Global, image: &[u8], lists: &[u8]) -> Result<Vec<u8>, Fail> 
 }
 
 /// An image with those partitions.
-fn image_with_partitions(alloc: Global) -> Result<Vec<u8>, Fail> {
+pub fn image_with_partitions(alloc: Global) -> Result<Vec<u8>, Fail> {
     let layout = read_layout(alloc, LAYOUT.as_bytes())?;
     let mut disk = MemoryDisk::new(alloc, Vec::new(alloc))?;
     make(alloc, &mut disk, "image", &layout, true)?;
