@@ -4,7 +4,8 @@ use Rattle.std.specs.Prelude.{nat_le, ◌==◌, ◌&&◌, if◌then◌else◌}
 use Rattle.std.proofs.lemmas.Bool.Decides.{nat_tests}
 use Rattle.dev_model.specs.declared.cells.Cell.{Cell}
 use Rattle.dev_model.specs.Options.{◌>>=◌, needs}
-use Rattle.dev_model.specs.Images.{chunk_cells, chunks_cells, sparse_cells, header_is_good, data_size, u16_at, u32_at, copies}
+use Rattle.dev_model.specs.Images.{chunk_cells, chunks_cells, sparse_cells, header_is_good, data_size, copies}
+use Rattle.fb_frame.specs.Fields.{u16_at, u32_at}
 use Rattle.dev_model.specs.Chunks.{cells_of}
 use Rattle.dev_model.specs.Steps.{wiped}
 

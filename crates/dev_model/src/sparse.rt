@@ -1,10 +1,12 @@
 ghost use Rattle.std.specs.Prelude.{◌≡◌, ◌≤◌, ◌*◌, ◌+◌, ◌^◌, ◌%◌, length, replicate, ◌&&◌, ◌==◌, nat_le, nat_lt, IfOk};
 ghost use Rattle.dev_model.specs.declared.cells.Cell.TheVariants.{Skip};
 ghost use Rattle.dev_model.specs.Chunks.{FirstChunk, cells_of};
-ghost use Rattle.dev_model.specs.Images.{u16_at, u32_at, is_sparse, header_is_good, data_size, chunk_cells, chunks_cells, sparse_cells, copies, image};
+ghost use Rattle.fb_frame.specs.Fields.{u16_at, u32_at};
+ghost use Rattle.dev_model.specs.Images.{is_sparse, header_is_good, data_size, chunk_cells, chunks_cells, sparse_cells, copies, image};
 
 use crate::cells::{Cell, Cells};
 use crate::images::{byte_cells, raw_cells};
+use fb_frame::fields::{u16_at, u32_at};
 use fb_frame::items::Items;
 use fb_frame::memory::Memory;
 use std::alloc::Global;
@@ -12,27 +14,6 @@ use std::alloc::Global;
 const HEADER: usize = 28;
 
 const CHUNK_HEADER: usize = 12;
-
-/// The little-endian number of two bytes at a place.
-fn u16_at(place: usize, bytes: &[u8]) -> u16
-    requires { place + 2 ≤ length bytes.now }
-    ensures { result ≡ u16_at place bytes.now }
-{
-    u16::from_le_bytes([bytes[place], bytes[place + 1]])
-}
-
-/// The little-endian number of four bytes at a place.
-fn u32_at(place: usize, bytes: &[u8]) -> u32
-    requires { place + 4 ≤ length bytes.now }
-    ensures { result ≡ u32_at place bytes.now }
-{
-    u32::from_le_bytes([
-        bytes[place],
-        bytes[place + 1],
-        bytes[place + 2],
-        bytes[place + 3],
-    ])
-}
 
 /// Whether a file begins with the sparse magic.
 fn is_sparse(file: &[u8]) -> bool
@@ -46,7 +27,7 @@ fn versions_are_good(file: &[u8]) -> bool
     ensures { result ≡ (u16_at 4 file.now == 1 && u16_at 6 file.now == 0 && u16_at 8 file.now == 28
         && u16_at 10 file.now == 12) }
 {
-    u16_at(4, file) == 1 && u16_at(6, file) == 0 && u16_at(8, file) == 28 && u16_at(10, file) == 12
+    u16_at(file, 4) == 1 && u16_at(file, 6) == 0 && u16_at(file, 8) == 28 && u16_at(file, 10) == 12
 }
 
 fn block_is_good(block: u32) -> bool
@@ -67,8 +48,8 @@ fn header_is_good(file: &[u8]) -> bool
 {
     HEADER <= file.len()
         && versions_are_good(file)
-        && block_is_good(u32_at(12, file))
-        && counts_are_good(u32_at(16, file), u32_at(12, file), u32_at(20, file))
+        && block_is_good(u32_at(file, 12))
+        && counts_are_good(u32_at(file, 16), u32_at(file, 12), u32_at(file, 20))
 }
 
 /// How many bytes of data follow a chunk's header, where its type is known.
@@ -142,9 +123,9 @@ fn first_chunk(bytes: &[u8], block: u32, blocks: u32) -> Option<Chunk>
     if bytes.len() < CHUNK_HEADER {
         return None;
     }
-    let kind = u16_at(0, bytes);
-    let own = u32_at(4, bytes);
-    let total = u32_at(8, bytes);
+    let kind = u16_at(bytes, 0);
+    let own = u32_at(bytes, 4);
+    let total = u32_at(bytes, 8);
     let size = data_size(kind, own, block)?;
     let data = &bytes[CHUNK_HEADER..];
     if own > blocks {
@@ -205,9 +186,9 @@ fn sparse_cells(alloc: Global, file: &[u8]) -> Result<Option<Cells>, Memory>
     if !header_is_good(file) {
         return Ok(None);
     }
-    let chunks = u32_at(20, file);
-    let block = u32_at(12, file);
-    let blocks = u32_at(16, file);
+    let chunks = u32_at(file, 20);
+    let block = u32_at(file, 12);
+    let blocks = u32_at(file, 16);
     let cells = chunks_cells(alloc, chunks, block, blocks, &file[HEADER..])?;
     Ok(cells)
 }

@@ -5,6 +5,7 @@ use Rattle.std.proofs.lemmas.List.{take-take, drop-take, take_min, take_all, len
 use Rattle.std.proofs.lemmas.Bool.Decides.{eqb_tells, nat_tests}
 use Rattle.std.proofs.lemmas.List.Sums.{sum_by_push}
 use Rattle.std.proofs.lemmas.List.Elements.{All-nil, All-push}
+use Rattle.fb_frame.specs.Fields.{u16_at, u32_at}
 use Rattle.dev_model.specs.Images.{image, is_sparse}
 use Rattle.sparse_image.specs.declared.errors.SparseKind.TheVariants.{Empty}
 use Rattle.sparse_image.proofs.WalkLemmas.{walk-agrees, image-none}
@@ -25,7 +26,7 @@ part-same n k m xs h =
 
 -- the first 16 bytes tell the chunk
 pub front-take : (block blocks place left : ℕ) (xs : List ℕ) → front_of block blocks place left (take 16 xs) ≡ front_of block blocks place left xs
-unfolding front_of
+unfolding front_of u16_at u32_at
 front-take block blocks place left xs =
     rw (part-same 2 0 16 xs (omega arith), part-same 4 4 16 xs (omega arith), part-same 4 8 16 xs (omega arith), part-same 4 12 16 xs (omega arith)) refl
 
@@ -60,6 +61,7 @@ magic-read (Some file) len buf l m r = rw (read-start file buf len 4 l m r, take
 magic-read None len buf l m r = tt
 
 pub header-take : (len : ℕ) (file : List ℕ) → header_of len (take 28 file) ≡ header_of len file
+unfolding u16_at u32_at
 header-take len file =
     rw (part-same 2 4 28 file (omega arith), part-same 2 6 28 file (omega arith), part-same 2 8 28 file (omega arith), part-same 2 10 28 file (omega arith), part-same 4 12 28 file (omega arith), part-same 4 16 28 file (omega arith), part-same 4 20 28 file (omega arith)) refl
 

@@ -1,5 +1,4 @@
 pub mod WalkLemmas
-pub mod NumberLemmas
 pub mod WalkSteps
 pub mod RunLemmas
 pub mod ReadLemmas

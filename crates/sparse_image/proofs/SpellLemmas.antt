@@ -10,7 +10,8 @@ use Rattle.sparse_image.proofs.WalkLemmas.{image_step, image-sparse, good_by}
 use Rattle.sparse_image.specs.declared.walk.Head.{Head}
 use Rattle.std.proofs.lemmas.List.Sums.{sum_by-cons}
 use Rattle.dev_model.specs.Options.{◌>>=◌, needs}
-use Rattle.dev_model.specs.Images.{image, header_is_good, data_size, chunks_cells, chunk_cells, u16_at, u32_at}
+use Rattle.dev_model.specs.Images.{image, header_is_good, data_size, chunks_cells, chunk_cells}
+use Rattle.fb_frame.specs.Fields.{u16_at, u32_at}
 use Rattle.dev_model.specs.declared.cells.Cell.{Cell}
 use Rattle.sparse_image.specs.declared.chunk.Content.{Content}
 use Rattle.sparse_image.specs.declared.chunk.Content.TheVariants.{Raw, Fill, DontCare}
@@ -31,12 +32,15 @@ kind-fits (Fill pattern) = omega arith
 kind-fits DontCare = omega arith
 
 head-kind : (kind blocks size : ℕ) (rest : List ℕ) → kind < 2 ^ 16 → u16_at 0 (head_bytes kind blocks size ++ rest) ≡ kind
+unfolding u16_at
 head-kind kind blocks size rest h = from_le_bytes-to_le_bytes_2 kind h
 
 head-blocks : (kind blocks size : ℕ) (rest : List ℕ) → blocks < 2 ^ 32 → u32_at 4 (head_bytes kind blocks size ++ rest) ≡ blocks
+unfolding u32_at
 head-blocks kind blocks size rest h = from_le_bytes-to_le_bytes_4 blocks h
 
 head-size : (kind blocks size : ℕ) (rest : List ℕ) → size < 2 ^ 32 → u32_at 8 (head_bytes kind blocks size ++ rest) ≡ size
+unfolding u32_at
 head-size kind blocks size rest h = from_le_bytes-to_le_bytes_4 size h
 
 data-size-of : (block blocks : ℕ) (content : Content) → data_size (kind_of content) blocks block ≡ Some (content_len (blocks * block) content)
@@ -114,6 +118,7 @@ good-now len block blocks chunks l m low high some short few = grind (arith, nat
 pub spelled-image : (block blocks : ℕ) (source : List ℕ) (chunks : List Chunk) → block % 512 ≡ 0 → 512 ≤ block → block ≤ 65536 → 0 < blocks → blocks < 2 ^ 32 → blocks * block ≤ 2 ^ 44 → length chunks ≤ 1000000 →
     All (IsSpelled block (length source)) chunks → sum_by (λ (c : Chunk). c.blocks) chunks ≡ blocks →
     image (sparse_file block blocks source chunks) ≡ Some (flat_map (cells_of block source) chunks)
+unfolding u16_at u32_at
 spelled-image block blocks source chunks m low high some fits short few w e =
     let body = flat_map (chunk_bytes block source) chunks in
     let file = sparse_file block blocks source chunks in

@@ -7,7 +7,8 @@ use Rattle.std.specs.List.{flat_map}
 use Rattle.std.proofs.lemmas.Bool.Decides.{nat_tests, eqb_tells, leb_tells}
 use Rattle.std.proofs.lemmas.List.{drop-drop, take_all, append-nil, length-replicate, length-take-le, length-drop, length-map}
 use Rattle.dev_model.specs.Options.{◌>>=◌, needs}
-use Rattle.dev_model.specs.Images.{data_size, image, header_is_good, sparse_cells, raw_cells, round_up, is_sparse, chunks_cells, chunk_cells, copies, u16_at, u32_at}
+use Rattle.dev_model.specs.Images.{data_size, image, header_is_good, sparse_cells, raw_cells, round_up, is_sparse, chunks_cells, chunk_cells, copies}
+use Rattle.fb_frame.specs.Fields.{u16_at, u32_at}
 use Rattle.dev_model.specs.declared.cells.Cell.{Cell}
 use Rattle.dev_model.specs.declared.cells.Cell.TheVariants.{Byte, Skip}
 use Rattle.sparse_image.specs.declared.errors.SparseError.{SparseError}

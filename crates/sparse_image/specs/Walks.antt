@@ -2,7 +2,8 @@
 -- that is wrong, with its kind and place.
 use Rattle.std.specs.Prelude.{◌≡◌, ◌≤◌, ◌<◌, ℕ, zero, suc, ◌+◌, ◌-◌, ◌*◌, ◌/◌, ◌%◌, ◌^◌, Bool, true, false, ◌||◌, not, List, [], ◌∷◌, ◌++◌, length, take, drop, map, replicate, nat_lt, ◌==◌, Option, Some, None, IfSome, Result, Ok, Err, if◌then◌else◌}
 use Rattle.std.specs.List.{flat_map, sum_by, All}
-use Rattle.dev_model.specs.Images.{image, round_up, u16_at, u32_at, is_sparse, data_size, copies}
+use Rattle.fb_frame.specs.Fields.{u16_at, u32_at}
+use Rattle.dev_model.specs.Images.{image, round_up, is_sparse, data_size, copies}
 use Rattle.dev_model.specs.declared.cells.Cell.{Cell}
 use Rattle.dev_model.specs.declared.cells.Cell.TheVariants.{Byte, Skip}
 use Rattle.sparse_image.specs.declared.errors.SparseKind.{SparseKind}

@@ -201,6 +201,7 @@ impl Index {
         ensures len { result ≡ self.now.blocks * self.now.block }
         ensures some { 0 < result }
         ensures short { result ≤ 2 ^ 44 }
+        ensures blocks { self.now.blocks < 2 ^ 32 }
     {
         u64::from(self.blocks) * u64::from(self.block)
     }

@@ -6,6 +6,7 @@ ghost use Rattle.sparse_image.specs.Laws.{WalkAgrees, ImageLength, PieceImage, P
 
 pub mod chunk;
 pub mod errors;
+pub mod image_runs;
 pub mod index;
 pub mod out;
 pub mod piece;
@@ -19,7 +20,6 @@ pub mod source;
 mod spell;
 mod walk;
 mod window;
-pub mod writes;
 
 /// The laws of the definitions.
 pub fn laws()

@@ -5,13 +5,13 @@ ghost use Rattle.sparse_image.specs.Walks.{IsChecked, checked};
 
 use crate::chunk::Chunk;
 use crate::errors::{PieceFault, SparseError, SparseKind};
+use crate::image_runs::runs;
 use crate::index::{CheckError, check};
 use crate::out::{MemoryOut, Out, OutFault};
 use crate::piece::Piece;
 use crate::pieces::Pieces;
 use crate::runs::Run;
 use crate::source::{Bytes, BytesFault, MemoryBytes};
-use crate::writes::runs;
 use std::alloc::{AllocError, Global};
 use std::mem::size_of;
 use std::process::Abort;

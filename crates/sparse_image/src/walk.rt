@@ -1,11 +1,12 @@
 ghost use Rattle.std.specs.Prelude.{◌≡◌, ℕ, ◌+◌, ◌-◌, ◌*◌, ◌^◌, ◌<◌, ◌≤◌, length, take, drop, min, IfOk, OnOk};
 ghost use Rattle.std.specs.Result.{result_err};
-ghost use Rattle.dev_model.specs.Images.{round_up, is_sparse, u16_at, u32_at, data_size};
+ghost use Rattle.fb_frame.specs.Fields.{u16_at, u32_at};
+ghost use Rattle.dev_model.specs.Images.{round_up, is_sparse, data_size};
 ghost use Rattle.sparse_image.specs.Walks.{form_flaw, size_flaw, IsFine, head_of, header_of, content_of, front_of, chunk_len, end_flaw, walked, LiesIn};
 
 use crate::chunk::{Chunk, Content};
 use crate::errors::{SparseError, SparseKind};
-use byteorder::{ByteOrder, LittleEndian};
+use fb_frame::fields::{u16_at, u32_at};
 
 /// How many bytes a sparse file's header has.
 pub const HEADER: usize = 28;
@@ -38,24 +39,6 @@ pub struct Head {
     pub kind: u16,
     pub blocks: u32,
     pub size: u32,
-}
-
-/// The little-endian number of two bytes at a place.
-#[tactic(auto, using(crate::proofs::NumberLemmas::numbers))]
-fn u16_at(bytes: &[u8], place: usize) -> u16
-    requires { place + 2 ≤ length bytes.now }
-    ensures { result ≡ u16_at place bytes.now }
-{
-    LittleEndian::read_u16(&bytes[place..])
-}
-
-/// The little-endian number of four bytes at a place.
-#[tactic(auto, using(crate::proofs::NumberLemmas::numbers))]
-fn u32_at(bytes: &[u8], place: usize) -> u32
-    requires { place + 4 ≤ length bytes.now }
-    ensures { result ≡ u32_at place bytes.now }
-{
-    LittleEndian::read_u32(&bytes[place..])
 }
 
 impl Header {

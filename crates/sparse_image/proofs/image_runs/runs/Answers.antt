@@ -2,7 +2,7 @@ use Rattle.std.proofs.Common.{◌<◌, length, sym, ◌∙◌, arith}
 use Rattle.std.proofs.lemmas.Bool.Decides.{nat_tests}
 use Rattle.std.proofs.lemmas.Result.{err_from_is_err_and}
 use Rattle.sparse_image.proofs.WalkLemmas.{sparse-none, raw-none, image-empty, image-sparse, image-raw}
-use Rattle.sparse_image.proofs.writes.runs.Goals as goal
+use Rattle.sparse_image.proofs.image_runs.runs.Goals as goal
 
 pub returns-then-is_empty-clause-none : goal.returns-then-is_empty-clause-none
 returns-then-is_empty-clause-none c = image-empty c.args.file.now (grind (arith, nat_tests))
