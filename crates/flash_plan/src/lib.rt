@@ -14,7 +14,7 @@ pub mod inspect;
 pub mod memory_dir;
 pub mod options;
 pub mod plan;
-mod plan_listed;
+pub mod plan_listed;
 mod plan_move;
 mod plan_moves;
 pub mod plan_targets;

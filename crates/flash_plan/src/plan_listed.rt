@@ -13,7 +13,7 @@ use std::alloc::Global;
 use super_meta::held::tables_of_image;
 
 /// Whether some task updates super.
-pub(crate) fn updates_super(tasks: &[Task]) -> bool
+pub fn updates_super(tasks: &[Task]) -> bool
     ensures { result ≡ list_any is_update tasks.now }
 {
     tasks
@@ -32,7 +32,7 @@ fn names(alloc: Global, partitions: &[TablePartition]) -> Result<Items<Name>, Me
 }
 
 /// The partitions that a product's tables list, where a task updates super.
-pub(crate) fn listed_in(
+pub fn listed_in(
     alloc: Global,
     tasks: &[Task],
     empty: &Option<EmptyImage>,

@@ -16,7 +16,7 @@ pub struct Candidates {
 }
 
 /// Whether the name is one of these.
-pub(crate) fn is_among(names: &[Name], name: &Name) -> bool
+pub fn is_among(names: &[Name], name: &Name) -> bool
     ensures { result ≡ is_among names.now name.now }
 {
     names.iter().any(|other| *other == *name)

@@ -32,7 +32,7 @@ fn matches_some(values: &[Word], text: Option<&[u8]>) -> bool
 }
 
 /// Whether a line that may be for one product is for this one.
-fn is_for(wanted: &Option<Word>, product: Option<&[u8]>) -> bool
+pub fn is_for(wanted: &Option<Word>, product: Option<&[u8]>) -> bool
     ensures { result ≡ is_for wanted.now (option_map (λ p. p.now) product.entry) }
 {
     match (wanted, product) {
