@@ -3,7 +3,7 @@ use Rattle.std.proofs.Common.{◌≡◌, ℕ, suc, ◌+◌, ◌-◌, ◌^◌, �
 use Rattle.std.proofs.lemmas.List.{get_or-set_same, get_or-set_other, get_or_push, length-append}
 use Rattle.std.proofs.lemmas.Bool.{cases_eq}
 use Rattle.std.proofs.lemmas.Bool.Decides.{nat_tests}
-use Rattle.unit_alloc.specs.declared.kept.Chain.{Chain}
+use Rattle.unit_alloc.specs.declared.owners.Chain.{Chain}
 use Rattle.unit_alloc.specs.Owning.{Owning, OneOwner, times, times_in, units_of, handed}
 use Rattle.unit_alloc.specs.Marks.{is_free}
 use Rattle.unit_alloc.specs.Chains.{stepped, linked, chain_units, chained, IsOwner, IsEnded, no_chain, AreChained, linked_next, longer}

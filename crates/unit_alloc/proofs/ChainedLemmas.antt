@@ -4,7 +4,7 @@ use Rattle.std.proofs.lemmas.List.{get_or-set_same, get_or-set_other, get_or_rea
 use Rattle.std.proofs.lemmas.List.Sums.{sum_by_more}
 use Rattle.std.proofs.lemmas.Bool.{cases_eq, cases_lt}
 use Rattle.std.proofs.lemmas.Bool.Decides.{nat_tests}
-use Rattle.unit_alloc.specs.declared.kept.Chain.{Chain}
+use Rattle.unit_alloc.specs.declared.owners.Chain.{Chain}
 use Rattle.unit_alloc.specs.Owning.{Owning, OneOwner, IsLowestFree, times, times_in, units_of, handed, unowned, free_units}
 use Rattle.unit_alloc.specs.Marks.{free_count, is_free}
 use Rattle.unit_alloc.specs.Chains.{stepped, linked, chain_units, chained, IsOwner, IsEnded, no_chain, AreChained}

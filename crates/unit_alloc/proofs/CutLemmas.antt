@@ -3,7 +3,7 @@ use Rattle.std.proofs.Common.{◌≡◌, ℕ, ◌-◌, ◌<◌, ◌≤◌, ◌�
 use Rattle.std.proofs.lemmas.List.{get_or-set_same, get_or-set_other, get_or_past}
 use Rattle.std.proofs.lemmas.Bool.{cases_eq, cases_lt}
 use Rattle.std.proofs.lemmas.Bool.Decides.{nat_tests}
-use Rattle.unit_alloc.specs.declared.kept.Chain.{Chain}
+use Rattle.unit_alloc.specs.declared.owners.Chain.{Chain}
 use Rattle.unit_alloc.specs.Owning.{Owning, OneOwner, times, times_in, units_of, kept}
 use Rattle.unit_alloc.specs.Chains.{stepped, linked, chain_units, chained, IsOwner, IsEnded, no_chain, AreChained, shorter, freed, AreOwned}
 use Rattle.unit_alloc.proofs.TimesLemmas.{times_in-cons, times_in-nil, times_in-take-drop, times_in-le-times}

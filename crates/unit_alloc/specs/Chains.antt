@@ -1,6 +1,6 @@
 -- Each part's units as a chain: the first, the next of each, and the last.
 use Rattle.std.specs.Prelude.{◌≡◌, ℕ, zero, suc, ◌+◌, ◌-◌, ◌^◌, ◌<◌, List, [], ◌∷◌, Option, Some, None, IsSome, map, length, ◌==◌, if◌then◌else◌, slice_index, slice_index_or, slice_set}
-use Rattle.unit_alloc.specs.declared.kept.Chain.{Chain}
+use Rattle.unit_alloc.specs.declared.owners.Chain.{Chain}
 use Rattle.unit_alloc.specs.Owning.{Owning, OneOwner, times, times_in}
 
 -- the unit that a number of steps lead to, each to the next unit

@@ -9,7 +9,7 @@ ghost use Rattle.unit_alloc.specs.Laws.{FreeCount, HandedUnits, HandedTimes, Han
 
 mod errors;
 mod fill;
-mod kept;
+mod owners;
 pub mod plain;
 mod states;
 mod sum;
@@ -17,7 +17,7 @@ mod sum;
 mod tests;
 
 pub use errors::{NoSpace, Owned};
-pub use kept::Owners;
+pub use owners::Owners;
 
 /// The laws of owners.
 #[tactic(auto, using(crate::proofs::OwnerLaws::laws))]
