@@ -41,7 +41,7 @@ long-by true false n m bytes rest h k = k
 long-by false b n m bytes rest h k = k
 
 -- the kept partition of a name
-kept-is : (s : SuperPart) (wipe : Bool) (dev : Dev) (c : Content) (name : List ℕ) (ps : List Partition) (logical : List Logical) (lists : List (List ℕ)) → AreEntriesOf s c ps logical lists →
+pub kept-is : (s : SuperPart) (wipe : Bool) (dev : Dev) (c : Content) (name : List ℕ) (ps : List Partition) (logical : List Logical) (lists : List (List ℕ)) → AreEntriesOf s c ps logical lists →
     kept_long (keeps_of wipe dev) c name ps ≡ length (kept_bytes name (filter (is_kept dev wipe) logical))
 kept-is s wipe dev c name [] [] [] h = refl
 kept-is s wipe dev c name [] [] (units ∷ lists) h = absurd h
@@ -77,7 +77,7 @@ listed-plan k new c old d long (p ∷ ps) (part ∷ parts) g =
     let more = listed-plan k new c old d long ps parts b.1 in
     λ i. record { name = p.name; attributes = p.attributes; group = sym group i; bytes = bytes i; part = part } ∷ more i
 
-listed-same : (groups : List Group) (name : List ℕ) (ps : List Partition) → is_listed (map (listed_in groups) ps) name ≡ list_any (λ q. bytes_eq q.name name) ps
+pub listed-same : (groups : List Group) (name : List ℕ) (ps : List Partition) → is_listed (map (listed_in groups) ps) name ≡ list_any (λ q. bytes_eq q.name name) ps
 listed-same groups name [] = refl
 listed-same groups name (p ∷ ps) = ap (λ b. bytes_eq p.name name || b) (listed-same groups name ps)
 

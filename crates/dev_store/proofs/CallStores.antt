@@ -80,38 +80,47 @@ fitted-many unit [] (l ∷ lists) h = absurd h
 fitted-many unit (p ∷ ps) [] h = absurd h
 fitted-many unit (p ∷ ps) (l ∷ lists) h = ap suc (fitted-many unit ps lists h.1)
 
-written-many : (layout : LayoutValue) (s : SuperPart) (state : State) (now : Owning) (parts file : List ℕ) (dev : Dev) → IsWrittenFor layout s state now parts file dev → length parts ≡ length dev.logical
-written-many layout s state now parts file dev w = sym (length-map parts (units_of now)) ∙ fitted-many s.unit dev.logical (map (units_of now) parts) w.fitted
+fitted-parts : (s : SuperPart) (now : Owning) (parts : List ℕ) (dev : Dev) → AreFitted s.unit dev.logical (map (units_of now) parts) → length parts ≡ length dev.logical
+fitted-parts s now parts dev h = sym (length-map parts (units_of now)) ∙ fitted-many s.unit dev.logical (map (units_of now) parts) h
 
--- what is planned for a device has room
-pub have-place : (layout : LayoutValue) (s : SuperPart) (state : State) (now : Owning) (parts file : List ℕ) (dev : Dev) (plan : List Planned) → IsWrittenFor layout s state now parts file dev →
+-- what is planned for a device has room, where each partition has as many units as it needs
+pub fitted-place : (layout : LayoutValue) (s : SuperPart) (now : Owning) (parts : List ℕ) (dev : Dev) (plan : List Planned) → AreFitted s.unit dev.logical (map (units_of now) parts) →
     IsOnSuper layout.physical s dev → plan ≡ planned_for dev.groups dev.logical parts → HavePlace s now plan
-have-place layout s state now parts file dev plan w on e = subst (HavePlace s now) (sym e) (record {
-  few = plan-few dev parts on.valid (written-many layout s state now parts file dev w);
-  units = plan-units s now dev parts on.valid on.unit on.units w.fitted;
+fitted-place layout s now parts dev plan h on e = subst (HavePlace s now) (sym e) (record {
+  few = plan-few dev parts on.valid (fitted-parts s now parts dev h);
+  units = plan-units s now dev parts on.valid on.unit on.units h;
 })
 
+pub have-place : (layout : LayoutValue) (s : SuperPart) (state : State) (now : Owning) (parts file : List ℕ) (dev : Dev) (plan : List Planned) → IsWrittenFor layout s state now parts file dev →
+    IsOnSuper layout.physical s dev → plan ≡ planned_for dev.groups dev.logical parts → HavePlace s now plan
+have-place layout s state now parts file dev plan w on e = fitted-place layout s now parts dev plan w.fitted on e
+
 -- the next table that is planned is that of the device
-pub planned-next : (layout : LayoutValue) (s : SuperPart) (state : State) (now : Owning) (parts file : List ℕ) (dev : Dev) (plan : List Planned) (w x : SuperRead) → IsWrittenFor layout s state now parts file dev →
-    IsOnSuper layout.physical s dev → IsHeadOf (content w.table) dev → plan ≡ planned_for dev.groups dev.logical parts → IsPlanned s now plan w x → x.parts.items ≡ parts → IsNextOf layout s dev x
-planned-next layout s state now parts file dev plan w x h on head e p same =
-    let many = written-many layout s state now parts file dev h in
+pub fitted-next : (layout : LayoutValue) (s : SuperPart) (now : Owning) (parts : List ℕ) (dev : Dev) (plan : List Planned) (w x : SuperRead) → IsMapOf s (table_for s dev (map (units_of now) parts)) now parts →
+    AreFitted s.unit dev.logical (map (units_of now) parts) → IsOnSuper layout.physical s dev → IsHeadOf (content w.table) dev → plan ≡ planned_for dev.groups dev.logical parts →
+    IsPlanned s now plan w x → x.parts.items ≡ parts → IsNextOf layout s dev x
+fitted-next layout s now parts dev plan w x mapped fitted on head e p same =
+    let many = fitted-parts s now parts dev fitted in
     let table : content x.next ≡ table_for s dev (map (units_of now) parts) = p.next ∙ next-table s now (content w.table) dev plan parts head e many in
     let back : map (units_of x.owners) x.parts.items ≡ map (units_of now) parts = λ i. map (units_of (p.owners i)) (same i) in
     record {
       table = table ∙ ap (table_for s dev) (sym back);
-      given = subst (AreGiven s dev.logical) (sym back) (given-of s _ now parts dev.logical h.mapped (subst OneOwner p.owners p.one) h.fitted);
+      given = subst (AreGiven s dev.logical) (sym back) (given-of s _ now parts dev.logical mapped (subst OneOwner p.owners p.one) fitted);
       super = on;
       mapped = subst (λ q. IsMapOf s (content x.next) q x.parts.items) (sym p.owners)
-          (subst (λ l. IsMapOf s (content x.next) now l) (sym same) (subst (λ c. IsMapOf s c now parts) (sym table) h.mapped));
+          (subst (λ l. IsMapOf s (content x.next) now l) (sym same) (subst (λ c. IsMapOf s c now parts) (sym table) mapped));
     }
+
+pub planned-next : (layout : LayoutValue) (s : SuperPart) (state : State) (now : Owning) (parts file : List ℕ) (dev : Dev) (plan : List Planned) (w x : SuperRead) → IsWrittenFor layout s state now parts file dev →
+    IsOnSuper layout.physical s dev → IsHeadOf (content w.table) dev → plan ≡ planned_for dev.groups dev.logical parts → IsPlanned s now plan w x → x.parts.items ≡ parts → IsNextOf layout s dev x
+planned-next layout s state now parts file dev plan w x h on head e p same = fitted-next layout s now parts dev plan w x h.mapped h.fitted on head e p same
 
 -- and its device is the one
 pub next-device : (layout : LayoutValue) (s : SuperPart) (state : State) (now : Owning) (parts : List ℕ) (image : Option (List ℕ)) (dev : Dev) (plan : List Planned) (w x : SuperRead) →
     IsWrittenFor layout s state now parts (file_or_zeros layout image) dev → IsHeadOf (content w.table) dev → plan ≡ planned_for dev.groups dev.logical parts → IsPlanned s now plan w x →
     device_held layout state (Some (content x.next)) image ≡ dev
 next-device layout s state now parts image dev plan w x h head e p =
-    let many = written-many layout s state now parts (file_or_zeros layout image) dev h in
+    let many = fitted-parts s now parts dev h.fitted in
     let table : content x.next ≡ table_for s dev (map (units_of now) parts) = p.next ∙ next-table s now (content w.table) dev plan parts head e many in
     held-file layout state (Some (content x.next)) image ∙ (ap (λ c. device_held layout state (Some c) (Some (file_or_zeros layout image))) table ∙ h.device)
 

@@ -52,7 +52,7 @@ create-tests dev name size =
     by false false false room = refl
 
 -- a number that is among others has a place
-at-any : (xs : List ℕ) (k : ℕ) → list_any (λ p. p == k) xs ≡ true → (i : ℕ) × (slice_get xs i ≡ Some k)
+pub at-any : (xs : List ℕ) (k : ℕ) → list_any (λ p. p == k) xs ≡ true → (i : ℕ) × (slice_get xs i ≡ Some k)
 at-any [] k h = absurd cc
 at-any (x ∷ xs) k h = by (x == k) refl h (at-any xs k)
   where

@@ -21,12 +21,12 @@ use Rattle.super_meta.specs.Contents.{Content}
 use Rattle.dev_store.specs.declared.layout.SuperPart.{SuperPart}
 use Rattle.dev_store.specs.declared.state.State.{State}
 use Rattle.dev_store.specs.declared.part_place.Units.{Units}
-use Rattle.dev_store.specs.LayoutLines.{first_unit}
 use Rattle.dev_store.specs.Layouts.{LayoutValue}
 use Rattle.dev_store.specs.Runs.{table_for}
 use Rattle.dev_store.specs.Supers.{extents_of, bytes_in, units_of}
 use Rattle.dev_store.specs.Held.{units_by}
 use Rattle.dev_store.specs.PartPlaces.{AreUnitsOf}
+use Rattle.dev_store.specs.Growing.{AreUnitsAt}
 use Rattle.dev_store.proofs.ChangeNamed.{by_name, at-name, by-place, by-names, not-or}
 use Rattle.dev_store.proofs.ChangeStore.{device_in, store-device, store-many}
 use Rattle.dev_store.proofs.ChangeResize.{resize-table}
@@ -84,13 +84,6 @@ long-created name size (p ∷ ps) n =
 any-created : (name : List ℕ) (size : ℕ) (ps : List Logical) → list_any (at-name name) (ps ++ new_logical name size ∷ []) ≡ true
 any-created name size [] = ap (λ b. b || false) ((bytes_eq-Decides name name).1 refl)
 any-created name size (p ∷ ps) = or-right (bytes_eq p.name name) _ (any-created name size ps)
-
--- These are the units of a map's part, as they lie in super.
-pub record AreUnitsAt (begin : ℕ) (s : SuperPart) (now : Owning) (part bytes : ℕ) (u : Units) : Type 0 where
-  pub units : units_owned u.owners.now u.part ≡ units_owned now part
-  pub start : u.start ≡ begin + first_unit s
-  pub unit : u.unit ≡ s.unit
-  pub size : u.size ≡ bytes
 
 units-named : (begin : ℕ) (s : SuperPart) (c : Content) (g : List ℕ → List ℕ) (name : List ℕ) (now : Owning) (part bytes : ℕ) (u : Units) → IsNamedEntry s c g name c.partitions bytes → g name ≡ units_owned now part →
     AreUnitsAt begin s now part bytes u → AreUnitsOf begin s c name u

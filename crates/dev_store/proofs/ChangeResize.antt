@@ -171,7 +171,7 @@ pub part-inside : (s : SuperPart) (c : Content) (o : Owning) (parts : List ℕ) 
 part-inside s c o parts i part h at = let l = inside-of parts i part h.there at in omega (arith, l, h.many)
 
 -- the units of a name are those of its part
-part-own : (o : Owning) (parts : List ℕ) (ps : List Logical) (name : List ℕ) (part : ℕ) → length parts ≡ length ps → slice_get parts (position_or_len (at-name name) ps) ≡ Some part → by_name o parts ps name ≡ units_of o part
+pub part-own : (o : Owning) (parts : List ℕ) (ps : List Logical) (name : List ℕ) (part : ℕ) → length parts ≡ length ps → slice_get parts (position_or_len (at-name name) ps) ≡ Some part → by_name o parts ps name ≡ units_of o part
 part-own o parts ps name part many at = by-place o parts ps name many ∙ ap (units_by (Some o)) at
 
 -- the units of a part that has as many
@@ -179,7 +179,7 @@ abbrev regrown-list : Owning → ℕ → ℕ → List ℕ
 regrown-list o part count = take count (units_of o part) ++ take (count - length (units_of o part)) (free_units o)
 
 -- the names of partitions of which one has another length
-resized-names : (name : List ℕ) (size : ℕ) (ps : List Logical) → map (λ p. p.name) (map (logical_changed name (cut_or_padded size)) ps) ≡ map (λ p. p.name) ps
+pub resized-names : (name : List ℕ) (size : ℕ) (ps : List Logical) → map (λ p. p.name) (map (logical_changed name (cut_or_padded size)) ps) ≡ map (λ p. p.name) ps
 resized-names name size ps = map-same (logical_changed name (cut_or_padded size)) (λ p. p.name) (λ p. refl) ps
 
 module _ (layout : LayoutValue) (s : SuperPart) (state : State) (c : Content) (o now : Owning) (parts old name : List ℕ) (part size : ℕ) (h : IsStoreSuper layout s state c o parts old)

@@ -25,7 +25,8 @@ use Rattle.dev_store.specs.Held.{device_held, file_or_zeros, seen, IsKept}
 use Rattle.dev_store.proofs.ChangeNamed.{at-name}
 use Rattle.dev_store.proofs.ChangeStore.{device_in}
 use Rattle.dev_store.proofs.ChangeResize.{IsLong}
-use Rattle.dev_store.proofs.ChangeParts.{AreUnitsAt, resize-part, create-part}
+use Rattle.dev_store.specs.Growing.{AreUnitsAt}
+use Rattle.dev_store.proofs.ChangeParts.{resize-part, create-part}
 use Rattle.dev_store.proofs.ChangeImages.{resize-put, resize-stays, create-put, create-stays}
 use Rattle.dev_store.specs.TableChanges.{IsStoreSuper, regrown}
 
@@ -40,7 +41,7 @@ module _ (layout : LayoutValue) (s : SuperPart) (state : State) (c : Content) (o
     (kept : IsKept layout state (Some (table_for s (apply (Resize name size) (device_held layout state (Some c) old)) (map (units_of now) parts))) old)
     (units : AreUnitsAt (parts_end layout.physical) s now part (round_up size) u) (len : ℕ) (long : IsLong name len (device_held layout state (Some c) old).logical) where
   -- the next table has the partition
-  resize-there : AreUnitsIn (parts_end layout.physical) layout.super_part (Some (table_for s (apply (Resize name size) (device_held layout state (Some c) old)) (map (units_of now) parts))) name u
+  pub resize-there : AreUnitsIn (parts_end layout.physical) layout.super_part (Some (table_for s (apply (Resize name size) (device_held layout state (Some c) old)) (map (units_of now) parts))) name u
   unfolding device_held
   resize-there =
       units-in layout s (table_for s (apply (Resize name size) (device_in layout state c (file_or_zeros layout old))) (map (units_of now) parts)) name u h.part
@@ -77,7 +78,7 @@ module _ (layout : LayoutValue) (s : SuperPart) (state : State) (c : Content) (o
     (kept : IsKept layout state (Some (table_for s (created name size (device_held layout state (Some c) old)) (map (units_of now) (parts ++ part ∷ [])))) old)
     (units : AreUnitsAt (parts_end layout.physical) s now part (round_up size) u) where
   -- the next table has the partition
-  create-there : AreUnitsIn (parts_end layout.physical) layout.super_part (Some (table_for s (created name size (device_held layout state (Some c) old)) (map (units_of now) (parts ++ part ∷ [])))) name u
+  pub create-there : AreUnitsIn (parts_end layout.physical) layout.super_part (Some (table_for s (created name size (device_held layout state (Some c) old)) (map (units_of now) (parts ++ part ∷ [])))) name u
   unfolding device_held
   create-there =
       units-in layout s (table_for s (created name size (device_in layout state c (file_or_zeros layout old))) (map (units_of now) (parts ++ part ∷ []))) name u h.part

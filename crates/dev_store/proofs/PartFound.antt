@@ -96,7 +96,7 @@ pub size-none : (c : Content) (name text : List ℕ) (ps : List Partition) → p
 size-none c name text ps same named e = sym (ap (option_map (λ q. bytes_in (extents_of c q))) (found-none (λ (q : Partition). bytes_eq q.name name) c.partitions (subst (λ l. None ≡ position (λ (q : Partition). bytes_eq q.name name) l) same (subst (λ n. None ≡ position (λ (q : Partition). bytes_eq q.name n) ps) named e))))
 
 -- a unit is whole blocks
-unit-blocks : (s : SuperPart) → IsBounded s → s.unit % 4096 ≡ 0
+pub unit-blocks : (s : SuperPart) → IsBounded s → s.unit % 4096 ≡ 0
 unit-blocks s b = let e = (good-super s b.good).blocks in grind (arith, nat_tests)
 
 -- the units of a name have room for its bytes

@@ -35,6 +35,13 @@ pub record IsSpelled (s : SuperPart) (r : SuperRead) : Type 0 where
   pub fits : r.size ≤ s.max_size
   pub long : length r.copy.items ≡ s.max_size
 
+-- The next table is in the copy so.
+pub record IsNextSpelled (s : SuperPart) (r : SuperRead) : Type 0 where
+  pub copy : TableBytes (content r.next) r.copy.items
+  pub size : r.size ≡ table_size (content r.next)
+  pub fits : r.size ≤ s.max_size
+  pub long : length r.copy.items ≡ s.max_size
+
 -- the copy of the table that is read: the backup of slot 0, or else its primary
 abbrev pub copy_read : SuperPart → Bool → ℕ
 copy_read s backup = if backup then s.slots else 0

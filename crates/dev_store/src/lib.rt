@@ -9,11 +9,16 @@ ghost use Rattle.dev_store.specs.Laws.{OneStateReads, OneTableReads, ZeroedRefus
 ghost use Rattle.dev_store.specs.Laws.{StandsValid, OwnsOnce, MadeStands, ZeroedTells};
 ghost use Rattle.dev_store.specs.Rows.{Rows};
 
+mod create_call;
+mod create_plan;
 mod entries;
 pub mod errors;
 mod group_limits;
 mod image_read;
 mod image_repair;
+mod install_call;
+mod install_parts;
+mod install_read;
 pub mod layout;
 mod layout_draft;
 mod layout_line;
@@ -30,8 +35,10 @@ mod part_fill;
 mod part_place;
 mod part_read;
 mod part_write;
+mod part_zero;
 mod reads;
 mod record;
+mod resize_plan;
 pub mod state;
 mod state_write;
 mod states_read;

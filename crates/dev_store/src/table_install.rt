@@ -31,7 +31,7 @@ pub(crate) struct Keeps {
 
 impl Keeps {
     /// Whether an old partition of a name is kept.
-    fn keeps(self, name: &[u8]) -> bool
+    pub(crate) fn keeps(self, name: &[u8]) -> bool
         ensures { result ≡ keeps self name.now }
     {
         !self.wipe
@@ -47,7 +47,7 @@ impl Keeps {
     }
 
     /// How many bytes the kept partition of a name has.
-    fn kept_long(self, table: &Table, name: &[u8]) -> u64
+    pub(crate) fn kept_long(self, table: &Table, name: &[u8]) -> u64
         requires { IsTrue (list_all (is_short (content table.now)) (content table.now).partitions) }
         ensures { result ≡ kept_long self (content table.now) name.now (content table.now).partitions }
     {
@@ -74,7 +74,7 @@ impl Keeps {
     }
 
     /// Whether an old partition is kept that the new table doesn't list.
-    fn is_left(self, new: &Table, partition: &Partition) -> bool
+    pub(crate) fn is_left(self, new: &Table, partition: &Partition) -> bool
         ensures { result ≡ is_left self (content new.now) partition.now }
     {
         self.keeps(partition.name.bytes()) && !is_listed(&new.partitions, partition.name.bytes())
@@ -91,7 +91,7 @@ fn is_listed(partitions: &[Partition], name: &[u8]) -> bool
 }
 
 /// The name of a partition's group.
-fn group_of(table: &Table, partition: &Partition) -> Name
+pub(crate) fn group_of(table: &Table, partition: &Partition) -> Name
     requires { partition.now.group < length (content table.now).groups }
     ensures { result ≡ group_name (content table.now).groups partition.now.group }
 {

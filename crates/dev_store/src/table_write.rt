@@ -8,7 +8,7 @@ ghost use Rattle.super_meta.specs.Contents.{content, is_sound};
 ghost use Rattle.super_meta.specs.TableBytes.{TableBytes};
 ghost use Rattle.super_meta.specs.TableText.{table_size};
 ghost use Rattle.dev_store.specs.SuperBounds.{IsBounded};
-ghost use Rattle.dev_store.specs.SuperReads.{IsSpelled, HasRooms};
+ghost use Rattle.dev_store.specs.SuperReads.{IsSpelled, IsNextSpelled, HasRooms};
 ghost use Rattle.dev_store.specs.SuperRepairs.{AreTablesMended, SaysTable};
 ghost use Rattle.dev_store.specs.TableWrites.{AreLeft, AreCopiesWritten, AreCopiesLeft, IsTableAround};
 
@@ -82,8 +82,58 @@ fn spell(table: &Table, copy: &mut [u8]) -> usize
     size
 }
 
-/// Writes the next table over all copies of the table of super, which begins at the place `at`, and puts
-/// it in the table's place.
+impl SuperRead {
+    /// Spells the next table over the copy, with zeros after it.
+    pub(crate) fn spell_next(&mut self, s: &SuperPart)
+        requires sound { IsTrue (is_sound (content self.old.next)) }
+        requires fits { table_size (content self.old.next) ≤ s.now.max_size }
+        requires long { length self.old.copy.items ≡ s.now.max_size }
+        ensures spelled { IsNextSpelled s.now self.new }
+        ensures table { self.new.table ≡ self.old.table }
+        ensures next { self.new.next ≡ self.old.next }
+        ensures owners { self.new.owners ≡ self.old.owners }
+        ensures parts { self.new.parts ≡ self.old.parts }
+    {
+        self.size = spell(&self.next, &mut self.copy);
+    }
+}
+
+/// Writes the next table, which the copy holds, over all copies of the table of super, which begins at the
+/// place `at`, and puts it in the table's place.
+pub(crate) fn write_next<K: Disk>(
+    disk: &mut K,
+    s: &SuperPart,
+    at: u64,
+    within: &mut SuperRead,
+) -> Result<(), DiskFault>
+    requires bounded { IsBounded s.now }
+    requires inside { IsInside (K.told disk.old).open_length at s.now.size }
+    requires end { at + s.now.size < 2 ^ 64 }
+    requires spelled { IsNextSpelled s.now within.old }
+    ensures written { OnOk result (Both (AreTablesMended s.now at (content within.old.next))
+        (open_bytes (K.told disk.old)) (open_bytes (K.told disk.new))) }
+    ensures around { OnErr result (Both (IsTableAround (K.told disk.new).torn s.now at
+        (content within.old.next)) (open_bytes (K.told disk.old)) (open_bytes (K.told disk.new))) }
+    ensures put { OnOk result (within.new.table ≡ within.old.next) }
+    ensures back { OnOk result (within.new.next ≡ within.old.table) }
+    ensures stays { OnErr result (within.new ≡ within.old) }
+    ensures copy { within.new.copy ≡ within.old.copy }
+    ensures size { within.new.size ≡ within.old.size }
+    ensures owners { within.new.owners ≡ within.old.owners }
+    ensures parts { within.new.parts ≡ within.old.parts }
+    ensures kept { OpenKept (K.told disk.old) (K.told disk.new) }
+    ensures cause { OnErr result (Rose (K.told disk.old).faults (K.told disk.new).faults) }
+    ensures same { K.lent disk.new ≡ K.lent disk.old }
+{
+    let Ok(()) = write_tables(disk, s, at, &within.copy) else {
+        return Err(DiskFault);
+    };
+    mem::swap(&mut within.table, &mut within.next);
+    Ok(())
+}
+
+/// Spells the next table, writes it over all copies of the table of super, which begins at the place `at`,
+/// and puts it in the table's place.
 pub(crate) fn put_next<K: Disk>(
     disk: &mut K,
     s: &SuperPart,
@@ -112,11 +162,6 @@ pub(crate) fn put_next<K: Disk>(
     ensures cause { OnErr result (Rose (K.told disk.old).faults (K.told disk.new).faults) }
     ensures same { K.lent disk.new ≡ K.lent disk.old }
 {
-    let size = spell(&within.next, &mut within.copy);
-    let Ok(()) = write_tables(disk, s, at, &within.copy) else {
-        return Err(DiskFault);
-    };
-    within.size = size;
-    mem::swap(&mut within.table, &mut within.next);
-    Ok(())
+    within.spell_next(s);
+    write_next(disk, s, at, within)
 }

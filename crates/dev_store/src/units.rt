@@ -129,7 +129,7 @@ impl SuperPart {
     }
 
     /// Whether one of the partitions has such a name.
-    fn are_barred(&self, parts: &[PhysicalPart], partitions: &[Partition]) -> bool
+    pub(crate) fn are_barred(&self, parts: &[PhysicalPart], partitions: &[Partition]) -> bool
         ensures { result ≡ list_any (is_barred parts.now self.now) partitions.now }
     {
         partitions
