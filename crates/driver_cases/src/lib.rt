@@ -4,4 +4,6 @@
 #[cfg(test)]
 mod link_outs;
 #[cfg(test)]
+mod questions;
+#[cfg(test)]
 mod steps;

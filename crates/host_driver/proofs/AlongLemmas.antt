@@ -72,15 +72,15 @@ take-next [] n line e = absurd cc
 take-next (x ∷ lines) zero line e = let same : x ≡ line = cc in ap (λ t. t ∷ []) same
 take-next (x ∷ lines) (suc n) line e = ap (λ t. x ∷ t) (take-next lines n line e)
 
-joined-next : (lines : List (List ℕ)) (n : ℕ) (line : List ℕ) → slice_get lines n ≡ Some line → joined (take (suc n) lines) ≡ joined (take n lines) ++ line
+pub joined-next : (lines : List (List ℕ)) (n : ℕ) (line : List ℕ) → slice_get lines n ≡ Some line → joined (take (suc n) lines) ≡ joined (take n lines) ++ line
 joined-next lines n line e =
     ap joined (take-next lines n line e)
     ∙ (joined-append (take n lines) (line ∷ []) ∙ ap (λ t. joined (take n lines) ++ t) (append-nil line))
 
-grows-then : (a b c : Option (List ℕ)) → Grows a b → Grows b c → Grows a c
+pub grows-then : (a b c : Option (List ℕ)) → Grows a b → Grows b c → Grows a c
 grows-then a b c g h = record { more = g.more ++ h.more; grew = Grew-append a b c g.more h.more g.grew h.grew }
 
-grows-line : (a b : Option (List ℕ)) (line : List ℕ) → Grew a b line → Grows a b
+pub grows-line : (a b : Option (List ℕ)) (line : List ℕ) → Grew a b line → Grows a b
 grows-line a b line g = record { more = line; grew = g }
 
 -- nothing was taken yet

@@ -8,11 +8,9 @@ use Rattle.std.proofs.lemmas.List.{take-append-le}
 use Rattle.std.proofs.Math.Seq.{take-append_seam, take-append-add}
 use Rattle.fb_frame.specs.Causes.{Rose}
 use Rattle.fb_frame.specs.Framing.{frame}
-use Rattle.fb_frame.specs.Sinks.{Grew, GrewByPart}
-use Rattle.fb_frame.specs.Told.{Both}
-use Rattle.fb_frame.proofs.ToldLemmas.{both-weaker}
+use Rattle.fb_frame.specs.Sinks.{Grew, GrewByPart, GrewPart}
 use Rattle.fb_message.specs.declared.reply.Reply.{Reply}
-use Rattle.fb_message.specs.declared.reply.Reply.TheVariants.{Okay, Fail, Info}
+use Rattle.fb_message.specs.declared.reply.Reply.TheVariants.{Okay, Fail, Info, Text, Load}
 use Rattle.fb_message.specs.CommandText.{GetVar, spelling}
 use Rattle.fb_message.specs.Prefixes.{only_if}
 use Rattle.fb_message.specs.ReplyText.{reply_bytes}
@@ -224,7 +222,7 @@ unrefused-error (link.BadLength n) = tt
 unrefused-error (link.BadReply reply) = tt
 unrefused-error link.TooManyInfos = tt
 
-spelled-name : (name : List ℕ) → length name ≤ 4089 → spelling (GetVar name) ≡ Some (codes "getvar:" ++ name)
+pub spelled-name : (name : List ℕ) → length name ≤ 4089 → spelling (GetVar name) ≡ Some (codes "getvar:" ++ name)
 spelled-name name h = by (nat_le (length name) 4089) refl
   where
     by : (b : Bool) → nat_le (length name) 4089 ≡ b → spelling (GetVar name) ≡ Some (codes "getvar:" ++ name)
@@ -283,7 +281,7 @@ falls : (lines : List (List ℕ)) (count : ℕ) → count < length (joined lines
 falls [] count h = absurd (omega (arith, h))
 falls (x ∷ lines) count h = falls-by x lines count (nat_lt count (length x)) refl h (λ d k. falls lines d k)
 
-cut-in : (lines ls rest : List (List ℕ)) (bytes : List ℕ) → lines ≡ ls ++ rest → bytes ≡ joined ls → (x y : List ℕ) → GrewByPart bytes x y → IsCutIn lines x y
+cut-in : (lines ls rest : List (List ℕ)) (bytes : List ℕ) → lines ≡ ls ++ rest → bytes ≡ joined ls → (x y : List ℕ) → GrewByPart bytes x y → IsCutIn lines (Some x) (Some y)
 cut-in lines ls rest bytes e s x y p =
     let all : joined lines ≡ joined ls ++ joined rest = ap joined e ∙ joined-append ls rest in
     let few : p.count < length (joined ls) = (let k = p.fewer in omega (arith, k, ap length s)) in
@@ -301,6 +299,28 @@ cut-in lines ls rest bytes e s x y p =
           ∙ (ap (take p.count) (sym all) ∙ f.same)));
     }
 
+-- Some line was heard, and it has at least one byte.
+line-long : (r : Reply) → is_line r ≡ true → 0 < length (shown_line r)
+line-long (Okay text) l = absurd cc
+line-long (Fail text) l = absurd cc
+line-long (Info text) l = omega arith
+line-long (Text text) l = omega arith
+line-long (Load count) l = absurd cc
+
+cut-told : (name : List ℕ) (infos : List Reply) (w : Wire) → list_all is_line infos ≡ true → 0 < length infos → Fronts name infos w → (x y : Option (List ℕ)) → GrewPart x y (shown_lines infos) → IsCutIn (lines_to w.device name) x y
+cut-told name infos w l some f (Some x) (Some y) g = cut-in (lines_to w.device name) (map shown_line infos) f.0 (shown_lines infos) f.1 (sym (joined-lines infos)) x y g
+cut-told name infos w l some f (Some x) None g = absurd g
+cut-told name infos w l some f None (Some y) g = absurd g
+cut-told name [] w l some f None None g = absurd (omega (arith, some))
+cut-told name (i ∷ infos) w l some f None None g = record {
+  count = 0;
+  line = shown_line i;
+  next = ap (λ ls. slice_get ls 0) f.1;
+  n = 0;
+  short = line-long i (both (is_line i) (list_all is_line infos) l).0;
+  grew = tt;
+}
+
 pub unasked-unshown : (name : List ℕ) (a b : Seen) → ShownInPart (SaysFirst (GetVar name) a.port.peer) 0 a b → IsCutOff (GetVar name) a.port b.port → Exchanged (GetVar name) a.port b.port None → Kept a.port b.port → IsUnasked name a b stop.Output
 unasked-unshown name a b k cut x kept =
     let broke = Rose a.port.faults b.port.faults in
@@ -309,11 +329,9 @@ unasked-unshown name a b k cut x kept =
       unrefused = tt;
       still = told-off (λ s t. t ≡ s) a.port.peer b.port.peer
           (with-off (λ w. (more : List Reply) × ((said_to (GetVar name) w).replies ≡ k.infos ++ more)) (IsInterrupted broke (GetVar name)) (λ w dev. dev ≡ w.device) (λ w dev p q. same-cut broke name w dev q) a.port.peer b.port.peer k.due x);
-      shown = told-off (λ s t. Both (IsCutIn (lines_to s name)) a.text b.text) a.port.peer b.port.peer
-          (with-off (λ w. (more : List Reply) × ((said_to (GetVar name) w).replies ≡ k.infos ++ more)) (IsInterrupted broke (GetVar name)) (λ w dev. Both (IsCutIn (lines_to w.device name)) a.text b.text)
-          (λ w dev p q. let f = fronts name k.infos k.lines w p in
-          both-weaker (GrewByPart (shown_lines k.infos)) (IsCutIn (lines_to w.device name)) a.text b.text
-          (cut-in (lines_to w.device name) (map shown_line k.infos) f.0 (shown_lines k.infos) f.1 (sym (joined-lines k.infos))) k.shown) a.port.peer b.port.peer k.due x);
+      shown = told-off (λ s t. IsCutIn (lines_to s name) a.text b.text) a.port.peer b.port.peer
+          (with-off (λ w. (more : List Reply) × ((said_to (GetVar name) w).replies ≡ k.infos ++ more)) (IsInterrupted broke (GetVar name)) (λ w dev. IsCutIn (lines_to w.device name) a.text b.text)
+          (λ w dev p q. cut-told name k.infos w k.lines k.some (fronts name k.infos k.lines w p) a.text b.text k.shown) a.port.peer b.port.peer k.due x);
       grows = grows-part a.text b.text (shown_lines k.infos) k.shown;
       heard = λ h. tt;
       down = cut.down;

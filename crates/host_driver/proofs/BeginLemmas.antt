@@ -65,7 +65,7 @@ begun-opened a b o = record {
   kept = o.kept;
 }
 
-hung-still : (a b : Option Peer) → HungUp a b → OfTold a b (λ s t. t ≡ s)
+pub hung-still : (a b : Option Peer) → HungUp a b → OfTold a b (λ s t. t ≡ s)
 hung-still None None h = tt
 hung-still None (Some q) h = h
 hung-still (Some p) None h = h

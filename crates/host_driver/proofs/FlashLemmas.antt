@@ -52,7 +52,7 @@ use Rattle.host_driver.specs.Stepping.{IsServing, Serving, stop_of}
 use Rattle.host_driver.proofs.HaltLemmas.{flash-short, under-over}
 use Rattle.host_driver.proofs.LoadLemmas.{quiet-none, quiet-part, Passes-all}
 use Rattle.host_driver.proofs.StepLemmas.{decides-okay, decides-fail, took, decisions}
-use Rattle.host_driver.proofs.TakeLemmas.{heard-more, heard-again, heard-broken, why-broken, grows-part, decided-one, none-before, okay-told, fail-told, wire-is}
+use Rattle.host_driver.proofs.TakeLemmas.{unshown-link, unshown-none, heard-more, heard-again, heard-broken, why-broken, grows-part, decided-one, none-before, okay-told, fail-told, wire-is}
 
 -- A flash that isn't refused is a step that isn't.
 all-false : (a b c d e : Bool) (t u v x y : List ℕ) → first_passed ((a, t) ∷ (b, u) ∷ (c, v) ∷ (d, x) ∷ (e, y) ∷ []) ≡ None → option_or (first_passed ((a, t) ∷ (c, v) ∷ [])) (first_passed ((e, y) ∷ [])) ≡ None
@@ -167,6 +167,7 @@ Flash-fail name a b d text f k kept drops sound =
     let x = Exchanged-concluded (Flash name) a b (Fail text) k in
     record {
       why = tt;
+      unshown = tt;
       left = on-hung (λ w u. IsFlashLeft more name (loaded_image w.loaded) w.device u.device) (λ w t. IsFlashLeft more name (loaded_image w.loaded) w.device t) (λ w u r. r) a.port.peer b.port.peer d.peer
           (with-on (IsServing 4104) (IsExchanged broke (Flash name) (Fail text)) (λ w u. IsFlashLeft more name (loaded_image w.loaded) w.device u.device) (λ w u s y. left-fail broke more later name text w u s.runs y) a.port.peer b.port.peer f x) drops.left;
       stuck = on-hung (IsExchanged broke (Flash name) (Fail text)) (λ w t. (cells : List Cell) → option_and_then image w.loaded ≡ Some cells → RefusedStep (Put name cells) text w.device t ⊎ IsHaltedNow a.port.faults d.faults text t)
@@ -224,6 +225,7 @@ Flash-broken name p a b e error spelled same f k w l cut x kept = subst (FlashFa
   why = why-broken (Flash name) e a.port b.port w;
   left = cut-left name a.port b.port f x;
   stuck = unstuck-flash name a.port b.port e;
+  unshown = unshown-link e a.port.peer;
   quiet = quiet-none k.infos a.port.peer a.text b.text (says-flash name k.infos a.port.peer k.lines k.due) k.shown;
   grows = record { more = shown_lines k.infos; grew = k.shown };
   heard = heard-broken (Flash name) p e a b k w l spelled;
@@ -237,6 +239,7 @@ Flash-unshown name a b f k cut x kept = record {
   why = tt;
   left = cut-left name a.port b.port f x;
   stuck = tt;
+  unshown = unshown-none k.infos a.port.peer k.some (says-flash name k.infos a.port.peer k.lines k.due);
   quiet = quiet-part k.infos a.port.peer a.text b.text (says-flash name k.infos a.port.peer k.lines k.due) k.shown;
   grows = grows-part a.text b.text (shown_lines k.infos) k.shown;
   heard = λ h. tt;

@@ -45,14 +45,13 @@ use Rattle.fb_link.specs.Lines.{shown_lines}
 use Rattle.fb_link.specs.Errors.{Why}
 use Rattle.fb_link.proofs.EndLemmas.{frames-snoc}
 use Rattle.fb_link.proofs.TypedLemmas.{Exchanged-concluded}
-use Rattle.sparse_image.specs.Cuts.{Part, part_len}
 use Rattle.host_driver.specs.LinkOuts.{IsTaken, HasGivenUp}
 use Rattle.host_driver.specs.declared.drive.DriveError.{DriveError}
 use Rattle.host_driver.specs.declared.drive.DriveError.TheVariants as stop
 use Rattle.host_driver.specs.HeardLast.{HeardThen, HeardAt}
-use Rattle.host_driver.specs.PutPieces.{ArePart, IsPartSent, HasBegun, HasEnded, HeardLoad, Unrefused, IsUnloaded, IsUnread, GoesOn, IsLoadedBy, IsPartLoaded}
+use Rattle.host_driver.specs.PutPieces.{AreSent, HasBegun, HasEnded, HeardLoad, Unrefused, IsUnloaded, IsUnread, GoesOn, IsLoadedBy, AreLoaded}
 use Rattle.host_driver.specs.Stepping.{TakesAll, NoFiles, stop_of, WhyStopped}
-use Rattle.host_driver.proofs.TakeLemmas.{heard-more, heard-again, heard-broken, why-broken, grows-part}
+use Rattle.host_driver.proofs.TakeLemmas.{heard-more, heard-again, heard-broken, why-broken, grows-part, unshown-link, unshown-none, unshown-later}
 use Rattle.host_driver.specs.Wires.{command_wire, data_wire, download_wire, LogGrew}
 
 -- Two facts of one call.
@@ -144,25 +143,25 @@ ended bytes wire answer e w u v x h = record {
 }
 
 -- where the bytes are as many as were announced
-wire-of : (told : Option (List ℕ)) (part : Part) (n : ℕ) (bytes : List ℕ) → n ≡ part_len part → ArePart told part bytes → command_wire (Download n) ++ data_wire bytes ≡ download_wire bytes
-wire-of told part n bytes e p = ap (λ m. command_wire (Download m) ++ data_wire bytes) (e ∙ sym p.long)
+wire-of : (W : List ℕ → Type 0) (n : ℕ) (bytes : List ℕ) → ((bytes : List ℕ) → W bytes → length bytes ≡ n) → W bytes → command_wire (Download n) ++ data_wire bytes ≡ download_wire bytes
+wire-of W n bytes e p = ap (λ m. command_wire (Download m) ++ data_wire bytes) (sym (e bytes p))
 
 log-of : (n : ℕ) (a b : Seen) (end : Reply) → Concluded (Download n) a b end → Appended a.port.log b.port.log (command_wire (Download n))
 log-of n a b end k = subst (λ o. Appended a.port.log b.port.log (frame (unwrap_or o []))) (sym k.spelled) k.log
 
 -- the facts of one download, over a told connection
-finish-took : (told : Option (List ℕ)) (part : Part) (n : ℕ) (bytes answer : List ℕ) → n ≡ part_len part → (w u v y : Wire) → IsAnnounced n w u × ArePart told part bytes → IsTaken bytes (data_wire bytes) u y → IsEndHeard answer y v → IsLoadedBy bytes w v
-finish-took told part n bytes answer e w u v y x t h =
-    ended bytes (command_wire (Download n) ++ data_wire bytes) answer (wire-of told part n bytes e x.1) w y v
+finish-took : (W : List ℕ → Type 0) (n : ℕ) (bytes answer : List ℕ) → ((bytes : List ℕ) → W bytes → length bytes ≡ n) → (w u v y : Wire) → IsAnnounced n w u × W bytes → IsTaken bytes (data_wire bytes) u y → IsEndHeard answer y v → IsLoadedBy bytes w v
+finish-took W n bytes answer e w u v y x t h =
+    ended bytes (command_wire (Download n) ++ data_wire bytes) answer (wire-of W n bytes e x.1) w y v
     (took-both n bytes (data_wire bytes) w u y x.0 t) h
 
-download-took : (told : Option (List ℕ)) (part : Part) (n : ℕ) (bytes answer : List ℕ) (a b c d : Option Peer) → n ≡ part_len part → OnLink (IsAnnounced n) a b → OfLink (λ w. ArePart told part bytes) b → OnLink (IsTaken bytes (data_wire bytes)) b c → Heard c d answer → Loads c d → OnLink (IsLoadedBy bytes) a d
-download-took told part n bytes answer a b c d e x p t h l =
-    let first = on-with (IsAnnounced n) (λ w. ArePart told part bytes) a b x p in
+download-took : (W : List ℕ → Type 0) (n : ℕ) (bytes answer : List ℕ) (a b c d : Option Peer) → ((bytes : List ℕ) → W bytes → length bytes ≡ n) → OnLink (IsAnnounced n) a b → OfLink (λ w. W bytes) b → OnLink (IsTaken bytes (data_wire bytes)) b c → Heard c d answer → Loads c d → OnLink (IsLoadedBy bytes) a d
+download-took W n bytes answer a b c d e x p t h l =
+    let first = on-with (IsAnnounced n) (λ w. W bytes) a b x p in
     let last = on-both (λ u v. u ≡ record v { out = answer ++ v.out }) (λ u v. v.loaded ≡ Some (got_of u)) c d h l in
-    on-then (λ w u. (y : Wire) × (IsAnnounced n w y × ArePart told part bytes) × IsTaken bytes (data_wire bytes) y u) (IsEndHeard answer) (IsLoadedBy bytes)
-    (λ w u v q r. finish-took told part n bytes answer e w q.0 v u q.1 q.2 r) a c d
-    (on-then (λ w u. IsAnnounced n w u × ArePart told part bytes) (IsTaken bytes (data_wire bytes)) (λ w u. (y : Wire) × (IsAnnounced n w y × ArePart told part bytes) × IsTaken bytes (data_wire bytes) y u) (λ w u v q r. (u, q, r)) a b c first t)
+    on-then (λ w u. (y : Wire) × (IsAnnounced n w y × W bytes) × IsTaken bytes (data_wire bytes) y u) (IsEndHeard answer) (IsLoadedBy bytes)
+    (λ w u v q r. finish-took W n bytes answer e w q.0 v u q.1 q.2 r) a c d
+    (on-then (λ w u. IsAnnounced n w u × W bytes) (IsTaken bytes (data_wire bytes)) (λ w u. (y : Wire) × (IsAnnounced n w y × W bytes) × IsTaken bytes (data_wire bytes) y u) (λ w u v q r. (u, q, r)) a b c first t)
     last
 
 log-grew : (P : List ℕ → Type 0) (a b : Option (List ℕ)) (x : List ℕ) → Appended a b x → P x → LogGrew a b P
@@ -171,20 +170,20 @@ log-grew P None (Some b) x f p = absurd f
 log-grew P (Some a) None x f p = absurd f
 log-grew P (Some a) (Some b) x f p = (x, f, p)
 
-pub Part-loaded : (told : Option (List ℕ)) (part : Part) (n m k : ℕ) (a b c d : Seen) (line : List ℕ) → n ≡ part_len part → Concluded (Download n) a b (Load m) → Unbegun b.port.peer → IsPartSent told part b.port c.port → Finished k c d (Okay line) → d.port.log ≡ c.port.log → IsPartLoaded told part a.port d.port
-unfolding IsPartSent IsPartLoaded
-Part-loaded told part n m k a b c d line e con g s f log =
+pub Part-loaded : (W : List ℕ → Type 0) (n m k : ℕ) (a b c d : Seen) (line : List ℕ) → ((bytes : List ℕ) → W bytes → length bytes ≡ n) → Concluded (Download n) a b (Load m) → Unbegun b.port.peer → AreSent W b.port c.port → Finished k c d (Okay line) → d.port.log ≡ c.port.log → AreLoaded W a.port d.port
+unfolding AreSent AreLoaded
+Part-loaded W n m k a b c d line e con g s f log =
     let x = Announced-on n m a b con g in
-    let is = of-first (IsAnnounced n) (ArePart told part s.bytes) a.port.peer b.port.peer x s.part_is in
+    let is = of-first (IsAnnounced n) (W s.bytes) a.port.peer b.port.peer x s.wanted in
     let wire = command_wire (Download n) ++ data_wire s.bytes in
     record {
       bytes = s.bytes;
-      part_is = is;
-      took = download-took told part n s.bytes (reply_frames (f.infos ++ Okay line ∷ [])) a.port.peer b.port.peer c.port.peer d.port.peer e x s.part_is s.sent.took f.told f.loaded;
+      wanted = is;
+      took = download-took W n s.bytes (reply_frames (f.infos ++ Okay line ∷ [])) a.port.peer b.port.peer c.port.peer d.port.peer e x s.wanted s.sent.took f.told f.loaded;
       log = log-grew (λ t. OfLink (λ w. t ≡ download_wire s.bytes) a.port.peer) a.port.log d.port.log wire
           (subst (λ t. Appended a.port.log t wire) (sym log)
           (Appended-append a.port.log b.port.log c.port.log (command_wire (Download n)) (data_wire s.bytes) (log-of n a b (Load m) con) s.sent.log))
-          (of-of (λ w. ArePart told part s.bytes) (λ w. wire ≡ download_wire s.bytes) (λ w p. wire-of told part n s.bytes e p) a.port.peer is);
+          (of-of (λ w. W s.bytes) (λ w. wire ≡ download_wire s.bytes) (λ w p. wire-of W n s.bytes e p) a.port.peer is);
     }
 
 -- A told device refuses no download that it has room for.
@@ -248,21 +247,21 @@ Ended-untold k c d text s f =
     on-never (IsSendingWire 0) (λ w v. w ≡ record v { out = reply_frames (f.infos ++ Fail text ∷ []) ++ v.out })
     (ends-none f.infos text f.lines f.fits) c.port.peer d.port.peer s f.told
 
-sent-none : (told : Option (List ℕ)) (part : Part) (b c : PortTold) → IsPartSent told part b c → c.peer ≡ None → b.peer ≡ None
-unfolding IsPartSent
-sent-none told part b c s e = on-none (IsTaken s.bytes (data_wire s.bytes)) b.peer c.peer s.sent.took e
+sent-none : (W : List ℕ → Type 0) (b c : PortTold) → AreSent W b c → c.peer ≡ None → b.peer ≡ None
+unfolding AreSent
+sent-none W b c s e = on-none (IsTaken s.bytes (data_wire s.bytes)) b.peer c.peer s.sent.took e
 
 begun-none : (n m : ℕ) (a b : Seen) → Concluded (Download n) a b (Load m) → b.port.peer ≡ None → a.port.peer ≡ None
 begun-none n m a b k e =
     on-none (IsExchanged (Rose a.port.faults b.port.faults) (Download n) (Load m)) a.port.peer b.port.peer (Exchanged-concluded (Download n) a b (Load m) k) e
 
-sent-due : (told : Option (List ℕ)) (part : Part) (b c : PortTold) → IsPartSent told part b c → Downloading 0 c.peer
-unfolding IsPartSent
-sent-due told part b c s = s.sending
+sent-due : (W : List ℕ → Type 0) (b c : PortTold) → AreSent W b c → Downloading 0 c.peer
+unfolding AreSent
+sent-due W b c s = s.sending
 
-pub End-untold : (told : Option (List ℕ)) (part : Part) (n m k : ℕ) (a b c d : Seen) (text : List ℕ) → Concluded (Download n) a b (Load m) → IsPartSent told part b.port c.port → Finished k c d (Fail text) → a.port.peer ≡ None
-End-untold told part n m k a b c d text con s f =
-    begun-none n m a b con (sent-none told part b.port c.port s (Ended-untold k c d text (sent-due told part b.port c.port s) f))
+pub End-untold : (W : List ℕ → Type 0) (n m k : ℕ) (a b c d : Seen) (text : List ℕ) → Concluded (Download n) a b (Load m) → AreSent W b.port c.port → Finished k c d (Fail text) → a.port.peer ≡ None
+End-untold W n m k a b c d text con s f =
+    begun-none n m a b con (sent-none W b.port c.port s (Ended-untold k c d text (sent-due W b.port c.port s) f))
 
 -- The connection is given up: at the command, amid the data, or at the end.
 interrupted-same : (broke : Type 0) (n : ℕ) (w : Wire) (dev : Dev) → IsInterrupted broke (Download n) w dev → dev ≡ w.device
@@ -302,18 +301,18 @@ pub Kept-given : (a b c : PortTold) → Kept a b → HasGivenUp b c → Kept a c
 unfolding HasGivenUp
 Kept-given a b c k g = Kept-trans a b c k g.kept
 
-pub Kept-sent : (told : Option (List ℕ)) (part : Part) (a b c : PortTold) → Kept a b → IsPartSent told part b c → Kept a c
-unfolding IsPartSent
-Kept-sent told part a b c k s = Kept-trans a b c k s.sent.kept
+pub Kept-sent : (W : List ℕ → Type 0) (a b c : PortTold) → Kept a b → AreSent W b c → Kept a c
+unfolding AreSent
+Kept-sent W a b c k s = Kept-trans a b c k s.sent.kept
 
-sent-hung : (told : Option (List ℕ)) (part : Part) (b c : PortTold) (d : Option Peer) → IsPartSent told part b c → HungUp c.peer d → HungUp b.peer d
-unfolding IsPartSent
-sent-hung told part b c d s h = kept-hung (IsTaken s.bytes (data_wire s.bytes)) (λ w u t. t.device) b.peer c.peer d s.sent.took h
+sent-hung : (W : List ℕ → Type 0) (b c : PortTold) (d : Option Peer) → AreSent W b c → HungUp c.peer d → HungUp b.peer d
+unfolding AreSent
+sent-hung W b c d s h = kept-hung (IsTaken s.bytes (data_wire s.bytes)) (λ w u t. t.device) b.peer c.peer d s.sent.took h
 
-pub End-given : (told : Option (List ℕ)) (part : Part) (n m : ℕ) (a b : Seen) (c d : PortTold) → Concluded (Download n) a b (Load m) → IsPartSent told part b.port c → IsGivenUp c d → IsGivenUp a.port d
-End-given told part n m a b c d k s g = record {
+pub End-given : (W : List ℕ → Type 0) (n m : ℕ) (a b : Seen) (c d : PortTold) → Concluded (Download n) a b (Load m) → AreSent W b.port c → IsGivenUp c d → IsGivenUp a.port d
+End-given W n m a b c d k s g = record {
   down = g.down;
-  left = begun-hung n m a b d.peer k (sent-hung told part b.port c d.peer s g.left);
+  left = begun-hung n m a b d.peer k (sent-hung W b.port c d.peer s g.left);
   sound = g.sound;
 }
 
@@ -372,6 +371,7 @@ Unbegun-fail n a b d text f k kept drops sound =
       why = tt;
       given_up = record { down = drops.down; left = kept-told n (Fail text) a b d.peer k drops.left; sound = sound };
       unrefused = untold;
+      unshown = tt;
       quiet = of-untold (λ w. Grew a.text b.text []) a.port.peer untold;
       grows = record { more = shown_lines k.infos; grew = k.shown };
       heard = λ h. subst (λ o. HeardThen o (frame (reply_bytes (Fail text)))) (sym drops.heard)
@@ -388,6 +388,7 @@ Unbegun-broken n a b e error small same f k w l cut x kept =
       why = why-broken (Download n) e a.port b.port w;
       given_up = Cut-given n a.port b.port cut x;
       unrefused = unrefused-link e a.port.peer;
+      unshown = unshown-link e a.port.peer;
       quiet = quiet-none k.infos a.port.peer a.text b.text (says-none n k.infos a.port.peer k.lines f k.due) k.shown;
       grows = record { more = shown_lines k.infos; grew = k.shown };
       heard = heard-broken (Download n) (codes "download:" ++ hex8 n) e a b k w l spelled;
@@ -400,6 +401,7 @@ Unbegun-unshown n a b f k cut x kept = record {
   why = tt;
   given_up = Cut-given n a.port b.port cut x;
   unrefused = tt;
+  unshown = unshown-none k.infos a.port.peer k.some (says-none n k.infos a.port.peer k.lines f k.due);
   quiet = quiet-part k.infos a.port.peer a.text b.text (says-none n k.infos a.port.peer k.lines f k.due) k.shown;
   grows = grows-part a.text b.text (shown_lines k.infos) k.shown;
   heard = λ h. tt;
@@ -438,6 +440,7 @@ Ended-fail lines a b d text s f kept drops sound =
       why = tt;
       given_up = record { down = drops.down; left = kept-hung (λ w v. w ≡ record v { out = reply_frames (f.infos ++ Fail text ∷ []) ++ v.out }) (λ w v e. sym (ap (λ (x : Wire). x.device) e)) a.port.peer b.port.peer d.peer f.told drops.left; sound = sound };
       unrefused = untold;
+      unshown = tt;
       quiet = of-untold (λ w. Grew a.text b.text []) a.port.peer untold;
       grows = record { more = shown_lines f.infos; grew = f.shown };
       heard = λ h. subst (λ o. HeardThen o (frame (reply_bytes (Fail text)))) (sym drops.heard)
@@ -520,6 +523,7 @@ Ended-broken lines a b e error same k w given kept = subst (IsUnloaded NoFiles (
   why = why-ended e a.port b.port w;
   given_up = given;
   unrefused = unrefused-link e a.port.peer;
+  unshown = unshown-link e a.port.peer;
   quiet = quiet-none k.infos a.port.peer a.text b.text k.due k.shown;
   grows = record { more = shown_lines k.infos; grew = k.shown };
   heard = heard-ended lines e a b k w;
@@ -532,6 +536,7 @@ Ended-unshown lines a b k given kept = record {
   why = tt;
   given_up = given;
   unrefused = tt;
+  unshown = unshown-none k.infos a.port.peer k.some k.due;
   quiet = quiet-part k.infos a.port.peer a.text b.text k.due k.shown;
   grows = grows-part a.text b.text (shown_lines k.infos) k.shown;
   heard = λ h. tt;
@@ -578,32 +583,32 @@ quiet-both : (a : Option Peer) (t u v : Option (List ℕ)) → OfLink (λ w. Gre
 quiet-both a t u v f g = of-both (λ w. Grew t u []) (λ w. Grew u v []) (λ w. Grew t v []) (λ w x y. Grew-append t u v [] [] x y) a f g
 
 -- back to where the download began
-begun-first : (n m : ℕ) (Q : Type 0) (told : Option (List ℕ)) (part : Part) (a b : Seen) (c : PortTold) → Concluded (Download n) a b (Load m) → IsPartSent told part b.port c → OfLink (λ w. Q) c.peer → OfLink (λ w. Q) a.port.peer
-unfolding IsPartSent
-begun-first n m Q told part a b c k s q =
+begun-first : (n m : ℕ) (Q : Type 0) (W : List ℕ → Type 0) (a b : Seen) (c : PortTold) → Concluded (Download n) a b (Load m) → AreSent W b.port c → OfLink (λ w. Q) c.peer → OfLink (λ w. Q) a.port.peer
+unfolding AreSent
+begun-first n m Q W a b c k s q =
     of-first (IsExchanged (Rose a.port.faults b.port.faults) (Download n) (Load m)) Q a.port.peer b.port.peer (Exchanged-concluded (Download n) a b (Load m) k)
     (of-first (IsTaken s.bytes (data_wire s.bytes)) Q b.port.peer c.peer s.sent.took q)
 
-sent-heard : (told : Option (List ℕ)) (part : Part) (b c : PortTold) → IsPartSent told part b c → c.heard ≡ b.heard
-unfolding IsPartSent
-sent-heard told part b c s = s.sent.heard
+sent-heard : (W : List ℕ → Type 0) (b c : PortTold) → AreSent W b c → c.heard ≡ b.heard
+unfolding AreSent
+sent-heard W b c s = s.sent.heard
 
-pub Goes-on : (told : Option (List ℕ)) (part : Part) (n lines : ℕ) (a b : Seen) (c : PortTold) (d : Seen) → OfLink (λ w. n ≤ w.device.max) a.port.peer → HasBegun n a b lines → IsPartSent told part b.port c → HasEnded lines (seen c b.text) d → GoesOn a d
-Goes-on told part n lines a b c d fits h s e = record {
+pub Goes-on : (W : List ℕ → Type 0) (n lines : ℕ) (a b : Seen) (c : PortTold) (d : Seen) → OfLink (λ w. n ≤ w.device.max) a.port.peer → HasBegun n a b lines → AreSent W b.port c → HasEnded lines (seen c b.text) d → GoesOn a d
+Goes-on W n lines a b c d fits h s e = record {
   quiet = quiet-both a.port.peer a.text b.text d.text (begun-quiet n h.count a b fits h.concluded)
-      (begun-first n h.count (Grew b.text d.text []) told part a b c h.concluded s (ended-quiet lines (seen c b.text) d e.line (sent-due told part b.port c s) e.finished));
+      (begun-first n h.count (Grew b.text d.text []) W a b c h.concluded s (ended-quiet lines (seen c b.text) d e.line (sent-due W b.port c s) e.finished));
   grows = record { more = shown_lines h.concluded.infos ++ shown_lines e.finished.infos; grew = Grew-append a.text b.text d.text (shown_lines h.concluded.infos) (shown_lines e.finished.infos) h.concluded.shown e.finished.shown };
   heard = λ x. heard-again c.heard d.port.heard (e.finished.infos ++ Okay e.line ∷ [])
-      (subst (λ o. HeardThen o []) (sym (sent-heard told part b.port c s)) (heard-again a.port.heard b.port.heard (h.concluded.infos ++ Load h.count ∷ []) x h.concluded.bytes)) e.finished.bytes;
-  kept = Kept-trans a.port c d.port (Kept-sent told part a.port b.port c h.kept s) e.kept;
+      (subst (λ o. HeardThen o []) (sym (sent-heard W b.port c s)) (heard-again a.port.heard b.port.heard (h.concluded.infos ++ Load h.count ∷ []) x h.concluded.bytes)) e.finished.bytes;
+  kept = Kept-trans a.port c d.port (Kept-sent W a.port b.port c h.kept s) e.kept;
 }
 
-pub Loads-all : (told : Option (List ℕ)) (part : Part) (n lines : ℕ) (a b : Seen) (c : PortTold) (d : Seen) → n ≡ part_len part → HasBegun n a b lines → IsPartSent told part b.port c → HasEnded lines (seen c b.text) d → IsPartLoaded told part a.port d.port
-Loads-all told part n lines a b c d same h s e =
-    Part-loaded told part n h.count lines a b (seen c b.text) d e.line same h.concluded h.unbegun s e.finished e.log
+pub Loads-all : (W : List ℕ → Type 0) (n lines : ℕ) (a b : Seen) (c : PortTold) (d : Seen) → ((bytes : List ℕ) → W bytes → length bytes ≡ n) → HasBegun n a b lines → AreSent W b.port c → HasEnded lines (seen c b.text) d → AreLoaded W a.port d.port
+Loads-all W n lines a b c d same h s e =
+    Part-loaded W n h.count lines a b (seen c b.text) d e.line same h.concluded h.unbegun s e.finished e.log
 
 -- It broke off: at its command, amid its data, or at its end.
-why-files : (Files : List ℕ → Type 0) (a b : PortTold) (e : DriveError) → WhyStopped NoFiles a b e → WhyStopped Files a b e
+pub why-files : (Files : List ℕ → Type 0) (a b : PortTold) (e : DriveError) → WhyStopped NoFiles a b e → WhyStopped Files a b e
 why-files F a b stop.Memory w = w
 why-files F a b (stop.Directory file) w = absurd w
 why-files F a b stop.Output w = w
@@ -620,6 +625,7 @@ Unloaded-begun F B a b e u = record {
   why = why-files F a.port b.port e u.why;
   given_up = u.given_up;
   unrefused = u.unrefused;
+  unshown = u.unshown;
   quiet = u.quiet;
   grows = u.grows;
   heard = u.heard;
@@ -632,6 +638,7 @@ Unloaded-read file k l n lines a b c fits h g r = record {
   why = (refl, r);
   given_up = Data-given n h.count a b c h.concluded g;
   unrefused = tt;
+  unshown = tt;
   quiet = begun-quiet n h.count a b fits h.concluded;
   grows = record { more = shown_lines h.concluded.infos; grew = h.concluded.shown };
   heard = λ x. tt;
@@ -644,6 +651,7 @@ Unloaded-link F n lines a b c fits h g r = record {
   why = (let k = h.kept.later in omega (arith, k, r));
   given_up = Data-given n h.count a b c h.concluded g;
   unrefused = tt;
+  unshown = tt;
   quiet = begun-quiet n h.count a b fits h.concluded;
   grows = record { more = shown_lines h.concluded.infos; grew = h.concluded.shown };
   heard = λ x. tt;
@@ -681,22 +689,23 @@ heard-data : (n m : ℕ) (a b : Seen) (c : PortTold) (lines : ℕ) (k : Conclude
 heard-data n m a b c lines k e same h =
     (k.infos, m, k.lines, sym e, subst (λ o. HeardThen o (reply_frames (k.infos ++ Load m ∷ []))) (sym same) (heard-more a.port.heard b.port.heard [] (reply_frames (k.infos ++ Load m ∷ [])) h k.bytes))
 
-pub Unloaded-ended : (Files : List ℕ → Type 0) (told : Option (List ℕ)) (part : Part) (n lines : ℕ) (a b : Seen) (c : PortTold) (d : Seen) (e : DriveError) → OfLink (λ w. n ≤ w.device.max) a.port.peer → HasBegun n a b lines → IsPartSent told part b.port c → IsUnloaded NoFiles (HeardLoad lines c.heard) (seen c b.text) d e →
+pub Unloaded-ended : (Files : List ℕ → Type 0) (W : List ℕ → Type 0) (n lines : ℕ) (a b : Seen) (c : PortTold) (d : Seen) (e : DriveError) → OfLink (λ w. n ≤ w.device.max) a.port.peer → HasBegun n a b lines → AreSent W b.port c → IsUnloaded NoFiles (HeardLoad lines c.heard) (seen c b.text) d e →
     IsUnloaded Files (HeardThen a.port.heard []) a d e
-Unloaded-ended F told part n lines a b c d e fits h s u =
-    let none : c.peer ≡ None → a.port.peer ≡ None = λ z. begun-none n h.count a b h.concluded (sent-none told part b.port c s z) in
-    let kept = Kept-sent told part a.port b.port c h.kept s in
+Unloaded-ended F W n lines a b c d e fits h s u =
+    let none : c.peer ≡ None → a.port.peer ≡ None = λ z. begun-none n h.count a b h.concluded (sent-none W b.port c s z) in
+    let kept = Kept-sent W a.port b.port c h.kept s in
     record {
       why = why-later F a.port c d.port e kept none u.why;
-      given_up = End-given told part n h.count a b c d.port h.concluded s u.given_up;
+      given_up = End-given W n h.count a b c d.port h.concluded s u.given_up;
       unrefused = unrefused-later e a.port.peer c.peer none u.unrefused;
-      quiet = quiet-both a.port.peer a.text b.text d.text (begun-quiet n h.count a b fits h.concluded) (begun-first n h.count (Grew b.text d.text []) told part a b c h.concluded s u.quiet);
+      unshown = unshown-later e a.port.peer c.peer none u.unshown;
+      quiet = quiet-both a.port.peer a.text b.text d.text (begun-quiet n h.count a b fits h.concluded) (begun-first n h.count (Grew b.text d.text []) W a b c h.concluded s u.quiet);
       grows = grows-both a.text b.text d.text (shown_lines h.concluded.infos) h.concluded.shown u.grows;
-      heard = λ x. u.heard (heard-data n h.count a b c lines h.concluded h.counted (sent-heard told part b.port c s) x);
+      heard = λ x. u.heard (heard-data n h.count a b c lines h.concluded h.counted (sent-heard W b.port c s) x);
       kept = Kept-trans a.port c d.port kept u.kept;
     }
 
-pub Sent-due : (told : Option (List ℕ)) (part : Part) (b c : PortTold) → IsPartSent told part b c → Downloading 0 c.peer
-Sent-due told part b c s = sent-due told part b c s
+pub Sent-due : (W : List ℕ → Type 0) (b c : PortTold) → AreSent W b c → Downloading 0 c.peer
+Sent-due W b c s = sent-due W b c s
 
 pub ruleset loads = (Sent-due)

@@ -25,7 +25,7 @@ use Rattle.sparse_image.specs.Walks.{Kept as KeptImage, kept_cells, checked, IsC
 use Rattle.sparse_image.proofs.PieceLemmas.{kept-long, piece-length}
 use Rattle.wire_model.specs.Says.{loaded_image}
 use Rattle.wire_told.specs.Peers.{Peer, Apart, Joined, device_of, OfLink, OnLink}
-use Rattle.wire_told.specs.Ports.{PortTold, Kept}
+use Rattle.wire_told.specs.Ports.{Kept}
 use Rattle.wire_told.proofs.Lifted.{of-of, of-both}
 use Rattle.wire_told.proofs.PortLemmas.{Kept-same, Kept-trans}
 use Rattle.fb_link.specs.Seen.{Seen}
@@ -37,8 +37,11 @@ use Rattle.host_driver.specs.Driving.{Grows}
 use Rattle.host_driver.specs.Jobs.{OfTold}
 use Rattle.host_driver.specs.PutPieces.{ArePart, GoesOn}
 use Rattle.host_driver.specs.Puts.{Whole, Putting, HasPut, PutFails, IsPieceLeft, IsPieceStuck, put_cost, piece_wire, image_cost, left_cost, IsFrontPut, ArePieces, IsPutSoFar, HasPutAll, PutBreaks}
-use Rattle.host_driver.specs.Stepping.{IsServing, Serving, WhyStopped, IsBrokenIn, IsStuck}
+use Rattle.host_driver.specs.Stepping.{IsServing, Serving, IsBrokenIn, IsStuck, IsFixed}
 use Rattle.host_driver.specs.Wires.{part_wire, IsPut, LogGrew}
+use Rattle.host_driver.proofs.DriveFixed.{fixed-same, fixed-is, fixed-then, fixed-took, fixed-over}
+use Rattle.host_driver.proofs.TakeLemmas.{unshown-later}
+use Rattle.host_driver.proofs.DriveTaken.{why-move}
 use Rattle.host_driver.proofs.FrontLemmas.{front_put, front-none, front-all, front-next, refused-front}
 use Rattle.host_driver.proofs.HaltLemmas.{running}
 use Rattle.host_driver.proofs.PutPieceLemmas.{goes-both, back-on}
@@ -121,7 +124,7 @@ some-with None P f = tt
 some-with (Some x) P f = f x refl
 
 -- What may still come.
-Serving-less : (m n : ℕ) (a : Option Peer) → n ≤ m → Serving m a → Serving n a
+pub Serving-less : (m n : ℕ) (a : Option Peer) → n ≤ m → Serving m a → Serving n a
 Serving-less m n a h s = of-of (IsServing m) (IsServing n) (λ w p. record { free = record { running = p.free.running; bounded = (let b = p.free.bounded in omega (arith, b, h)) }; runs = p.runs }) a s
 
 linked-next : (R : Dev → Dev → Type 0) (m n : ℕ) (a b : Option Peer) → Serving m a → OfTold a b R → Serving n b → OnLink (λ w v. Unit {0}) a b
@@ -151,7 +154,7 @@ fits-next most n name cells (Some (Joined w)) (Some (Apart dev)) f r t = absurd 
 fits-next most n name cells (Some (Joined w)) (Some (Joined v)) f r t =
     let e : v.device.max ≡ w.device.max = ap (λ (d : Dev). d.max) r.taken in subst (λ m. most ≤ m) (sym e) f
 
-log-then : (P Q R : List ℕ → Type 0) → ((x y : List ℕ) → P x → Q y → R (x ++ y)) → (a b c : Option (List ℕ)) → LogGrew a b P → LogGrew b c Q → LogGrew a c R
+pub log-then : (P Q R : List ℕ → Type 0) → ((x y : List ℕ) → P x → Q y → R (x ++ y)) → (a b c : Option (List ℕ)) → LogGrew a b P → LogGrew b c Q → LogGrew a c R
 log-then P Q R f None None c l m = none c m
   where
     none : (c : Option (List ℕ)) → LogGrew None c Q → LogGrew None c R
@@ -162,13 +165,13 @@ log-then P Q R f (Some a) None c l m = absurd l
 log-then P Q R f (Some a) (Some b) None l m = absurd m
 log-then P Q R f (Some a) (Some b) (Some c) l m = (l.0 ++ m.0, m.1 ∙ (ap (λ t. t ++ m.0) l.1 ∙ append_assoc a l.0 m.0), f l.0 m.0 l.2 m.2)
 
-log-map : (P Q : List ℕ → Type 0) → ((x : List ℕ) → P x → Q x) → (a b : Option (List ℕ)) → LogGrew a b P → LogGrew a b Q
+pub log-map : (P Q : List ℕ → Type 0) → ((x : List ℕ) → P x → Q x) → (a b : Option (List ℕ)) → LogGrew a b P → LogGrew a b Q
 log-map P Q f None None l = tt
 log-map P Q f None (Some b) l = absurd l
 log-map P Q f (Some a) None l = absurd l
 log-map P Q f (Some a) (Some b) l = (l.0, l.1, f l.0 l.2)
 
-log-self : (P : List ℕ → Type 0) → P [] → (a : Option (List ℕ)) → LogGrew a a P
+pub log-self : (P : List ℕ → Type 0) → P [] → (a : Option (List ℕ)) → LogGrew a a P
 log-self P p None = tt
 log-self P p (Some a) = ([], sym (append-nil a), p)
 
@@ -203,6 +206,7 @@ Put-begun p c a n e most s f = record {
   serving = λ spare q. Serving-less (image_cost p.kept + spare) (left_cost c + spare) a.port.peer
       (let z : c.first ≡ 0 = ap (λ (x : Cutting). x.first) e in let k : c.kept.blocks ≡ p.kept.blocks = ap (λ (x : Cutting). x.kept.blocks) e in omega (arith, most, z, k)) q;
   fits = f;
+  fixed = told-self IsFixed a.port.peer fixed-same;
   goes = goes-self a n s;
 }
   where
@@ -291,6 +295,8 @@ Put-more p c d part w a b e is f s g more within most name wanted h =
           a.port.log b.port.log e.port.log s.log h.log;
       serving = λ spare q. h.serving (left_cost d + spare) (Serving-less (left_cost c + spare) (put_cost (part_len part) + (left_cost d + spare)) b.port.peer
           (omega (arith, first, more, end, start, most, cblocks, dblocks)) (s.serving spare q));
+      fixed = told-then IsFixed (TookStep (Put p.name (loaded_image (Some h.bytes)))) IsFixed a.port.peer b.port.peer e.port.peer
+          (λ x y z q r. fixed-then x y z q (fixed-took (Put p.name (loaded_image (Some h.bytes))) y z r)) s.fixed took;
       fits = fits-next p.most 0 p.name (loaded_image (Some h.bytes)) b.port.peer e.port.peer s.fits took next;
       goes = goes-both a b e (back-on (λ w v. Unit {0}) (Grew b.text e.text []) a.port.peer b.port.peer s.linked) s.goes h.goes;
     }
@@ -336,6 +342,7 @@ Put-all p c d a b is some f s g =
         kept = s.goes.kept;
       });
       serving = serving;
+      fixed = s.fixed;
       goes = s.goes;
     }
 
@@ -391,6 +398,11 @@ piece-lives w broke t u f (inl e) h = absurd (not-halted u (ap (λ (d : Dev). is
 piece-lives w broke t u f (inr (inl x)) h = absurd (not-halted u (ap (λ (d : Dev). is_fastboot d.mode) x.2.taken ∙ f) h)
 piece-lives w broke t u f (inr (inr x)) h = x.0
 
+piece-fixed : (w : Putting) (broke : Type 0) (t u : Dev) → IsPieceLeft w broke t u → IsFixed t u
+piece-fixed w broke t u (inl e) = fixed-is t u e
+piece-fixed w broke t u (inr (inl x)) = fixed-took (Put w.name (loaded_image (Some x.0))) t u x.2
+piece-fixed w broke t u (inr (inr x)) = fixed-over w.name t u x.1
+
 stuck-front : (name : List ℕ) (part cells : List Cell) (n : ℕ) (text : List ℕ) (s t u : Dev) → length part ≡ length cells → IsFrontPut name cells n s t → RefusedStep (Put name part) text t u → RefusedStep (Put name cells) text s u
 stuck-front name part cells n text s t u long q r =
     let refusal : refusal_of (Put name cells) s ≡ Some text = sym (refused-front name part cells n s long) ∙ (ap (λ (d : Dev). refusal_of (Put name part) d) (sym q.0) ∙ r.refusal) in
@@ -399,18 +411,6 @@ stuck-front name part cells n text s t u long q r =
     pick : (n ≡ 0) ⊎ (can (Put name cells) s ≡ true) → refusal_of (Put name cells) s ≡ Some text → u ≡ s
     pick (inl z) e = r.same ∙ (q.0 ∙ (ap (λ k. front_put name cells k s) z ∙ front-none name cells s))
     pick (inr c) e = let n = sym (takes-none (Put name cells) s c) ∙ e in absurd cc
-
-why-move : (F G : List ℕ → Type 0) (a b c : PortTold) (e : DriveError) → ((x : List ℕ) → F x → G x) → Kept a b → (b.peer ≡ None → a.peer ≡ None) → WhyStopped F b c e → WhyStopped G a c e
-why-move F G a b c stop.Memory f k n w = w
-why-move F G a b c (stop.Directory file) f k n w = f file w
-why-move F G a b c stop.Output f k n w = w
-why-move F G a b c stop.Link f k n w = omega (arith, k.later, w)
-why-move F G a b c stop.Ended f k n w = (n w.0, omega (arith, k.no_fewer, w.1))
-why-move F G a b c (stop.Refused text) f k n w = w
-why-move F G a b c (stop.Peer kept) f k n w = n w
-why-move F G a b c stop.TooManyInfos f k n w = n w
-why-move F G a b c (stop.Requirement line name value) f k n w = w
-why-move F G a b c (stop.Plan line kind) f k n w = w
 
 linked-told : (a b : Option Peer) → OnLink (λ w v. Unit {0}) a b → OfTold a b (λ s t. Unit {0})
 linked-told None None r = tt
@@ -474,6 +474,7 @@ Put-breaks F p c d part w a b e error is f s g more within most name wanted file
     let grows : Grows a.text e.text = record { more = s.goes.grows.more ++ h.grows.more; grew = Grew-append a.text b.text e.text s.goes.grows.more h.grows.more s.goes.grows.grew h.grows.grew } in
     let lives = told-then (λ x y. Unit {0}) (λ y z. z.mode ≡ Halted → Rose a.port.faults e.port.faults) (λ x z. z.mode ≡ Halted → Rose a.port.faults e.port.faults) a.port.peer b.port.peer e.port.peer (λ x y z m n. n) (linked-told a.port.peer b.port.peer s.linked)
     (told-serving (λ x. Unit {0}) (IsPieceLeft w (Rose b.port.faults e.port.faults)) (λ y z. z.mode ≡ Halted → Rose a.port.faults e.port.faults) (put_cost (part_len part)) b.port.peer e.port.peer (λ y z m n o. later (piece-lives w (Rose b.port.faults e.port.faults) y z m n o)) now h.left) in
+    let unshown = unshown-later error a.port.peer b.port.peer (linked-none a.port.peer b.port.peer s.linked) h.unshown in
     let why = why-move w.Files F a.port b.port e.port error files s.goes.kept (linked-none a.port.peer b.port.peer s.linked) h.why in
     let all = Kept-trans a.port b.port e.port s.goes.kept h.kept in
     record {
@@ -490,6 +491,7 @@ Put-breaks F p c d part w a b e error is f s g more within most name wanted file
                 (piece-left file part w p.name (Rose b.port.faults e.port.faults) (Rose a.port.faults e.port.faults) y z name want later r))
                 front h.left);
             stuck = stuck-all p c part w file a b e error checks kept (omega (arith, more)) end name want s.goes.kept front h.stuck;
+            unshown = unshown;
             quiet = quiet-lost (Grew a.text e.text []) _ a.port.peer e.port.peer quiet lives;
             grows = grows;
             heard = λ x. h.heard (s.goes.heard x);
@@ -498,6 +500,9 @@ Put-breaks F p c d part w a b e error is f s g more within most name wanted file
             kept = all;
           });
       lives = lives;
+      fixed = told-then IsFixed (IsPieceLeft w (Rose b.port.faults e.port.faults)) IsFixed a.port.peer b.port.peer e.port.peer
+          (λ x y z q r. fixed-then x y z q (piece-fixed w (Rose b.port.faults e.port.faults) y z r)) s.fixed h.left;
+      unshown = unshown;
       why = why;
       quiet = quiet;
       grows = grows;

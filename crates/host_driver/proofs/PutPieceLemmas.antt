@@ -31,10 +31,11 @@ use Rattle.host_driver.specs.Commands.{TookStep, RefusedStep}
 use Rattle.host_driver.specs.Driven.{IsHaltedNow}
 use Rattle.host_driver.specs.HeardLast.{HeardThen}
 use Rattle.host_driver.specs.Jobs.{OfTold}
-use Rattle.host_driver.specs.PutPieces.{ArePart, IsLoadedBy, IsPartLoaded, GoesOn, IsUnloaded, Unrefused}
+use Rattle.host_driver.specs.PutPieces.{ArePart, IsLoadedBy, AreLoaded, GoesOn, IsUnloaded, Unrefused}
 use Rattle.host_driver.specs.Puts.{Putting, put_cost, piece_wire, HasFlashed, FlashFails, IsFlashLeft, IsFlashStuck, HasPut, IsPieceLeft, IsPieceStuck, PutFails}
 use Rattle.host_driver.specs.Stepping.{IsServing, Serving}
 use Rattle.host_driver.proofs.LoadLemmas.{on-none, why-later}
+use Rattle.host_driver.proofs.TakeLemmas.{unshown-later}
 use Rattle.host_driver.specs.Wires.{full_frames, last_frame, command_wire, data_wire, download_wire, LogGrew}
 
 -- How many bytes a download is.
@@ -61,7 +62,7 @@ spelled-long : (b : Bool) (n : ℕ) → length (unwrap_or (only_if b (codes "dow
 spelled-long true n = omega (arith, length-append (codes "download:") (hex8 n))
 spelled-long false n = omega arith
 
-download-long : (x : List ℕ) → length (download_wire x) ≤ 4104 + 9 * length x
+pub download-long : (x : List ℕ) → length (download_wire x) ≤ 4104 + 9 * length x
 download-long x =
     let payload = unwrap_or (spelling (Download (length x))) [] in
     omega (arith, data-long x, length-frame payload, spelled-long (nat_lt (length x) (2 ^ 32)) (length x), length-append (frame payload) (data_wire x))
@@ -79,10 +80,10 @@ part-serving told part spare bytes a b p l s =
     (λ w v q y. serving-loaded (part_len part) spare bytes q.0.long w v q.1 y) a b
     (of-both (λ w. ArePart told part bytes) (IsServing (4104 + 9 * part_len part + spare)) (λ w. ArePart told part bytes × IsServing (4104 + 9 * part_len part + spare) w) (λ w x y. (x, y)) a p s) l
 
-pub Serving-loaded : (told : Option (List ℕ)) (part : Part) (a b : PortTold) → IsPartLoaded told part a b → Serving (put_cost (part_len part)) a.peer → Serving 4104 b.peer
-unfolding IsPartLoaded
+pub Serving-loaded : (told : Option (List ℕ)) (part : Part) (a b : PortTold) → AreLoaded (ArePart told part) a b → Serving (put_cost (part_len part)) a.peer → Serving 4104 b.peer
+unfolding AreLoaded
 Serving-loaded told part a b l s =
-    part-serving told part 4104 l.bytes a.peer b.peer l.part_is l.took
+    part-serving told part 4104 l.bytes a.peer b.peer l.wanted l.took
     (subst (λ n. Serving n a.peer) (omega arith) s)
 
 -- Both together.
@@ -122,13 +123,13 @@ log-both P Q x f (Some a) None c l p = absurd l
 log-both P Q x f (Some a) (Some b) None l p = absurd p
 log-both P Q x f (Some a) (Some b) (Some c) l p = (l.0 ++ x, p ∙ (ap (λ t. t ++ x) l.1 ∙ append_assoc a l.0 x), f l.0 l.2)
 
-pub Has-put : (p : Putting) (told : Option (List ℕ)) (part : Part) (a b c : Seen) → ((bytes : List ℕ) → ArePart told part bytes → p.Wanted bytes) → IsPartLoaded told part a.port b.port → GoesOn a b → HasFlashed p.name b c → HasPut p (put_cost (part_len part)) a c
-unfolding IsPartLoaded
+pub Has-put : (p : Putting) (told : Option (List ℕ)) (part : Part) (a b c : Seen) → ((bytes : List ℕ) → ArePart told part bytes → p.Wanted bytes) → AreLoaded (ArePart told part) a.port b.port → GoesOn a b → HasFlashed p.name b c → HasPut p (put_cost (part_len part)) a c
+unfolding AreLoaded
 Has-put p told part a b c wanted l g f = record {
   bytes = l.bytes;
-  part_is = of-of (λ w. ArePart told part l.bytes) (λ w. p.Wanted l.bytes) (λ w x. wanted l.bytes x) a.port.peer l.part_is;
+  part_is = of-of (λ w. ArePart told part l.bytes) (λ w. p.Wanted l.bytes) (λ w x. wanted l.bytes x) a.port.peer l.wanted;
   took = took-both p.name l.bytes a.port.peer b.port.peer c.port.peer l.took f.took;
-  serving = λ spare s. f.serving spare (part-serving told part (4104 + spare) l.bytes a.port.peer b.port.peer l.part_is l.took (subst (λ n. Serving n a.port.peer) (omega arith) s));
+  serving = λ spare s. f.serving spare (part-serving told part (4104 + spare) l.bytes a.port.peer b.port.peer l.wanted l.took (subst (λ n. Serving n a.port.peer) (omega arith) s));
   log = log-both (λ wire. OfLink (λ w. wire ≡ download_wire l.bytes) a.port.peer) (λ wire. OfLink (λ w. wire ≡ piece_wire p.name l.bytes) a.port.peer) (command_wire (Flash p.name))
       (λ y q. of-of (λ w. y ≡ download_wire l.bytes) (λ w. y ++ command_wire (Flash p.name) ≡ piece_wire p.name l.bytes) (λ w e. ap (λ t. t ++ command_wire (Flash p.name)) e) a.port.peer q)
       a.port.log b.port.log c.port.log l.log f.log;
@@ -165,6 +166,7 @@ Fails-loading p a b e u = record {
   why = u.why;
   left = unloaded-left p (Rose a.port.faults b.port.faults) a.port.peer b.port.peer u.given_up.left;
   stuck = unloaded-stuck p a.port b.port e u.unrefused u.given_up.left;
+  unshown = u.unshown;
   quiet = u.quiet;
   grows = u.grows;
   heard = u.heard;
@@ -225,14 +227,15 @@ flash-stuck p bytes a b c stop.TooManyInfos k q l f = tt
 flash-stuck p bytes a b c (stop.Requirement line name value) k q l f = tt
 flash-stuck p bytes a b c (stop.Plan line kind) k q l f = tt
 
-pub Fails-flashing : (p : Putting) (told : Option (List ℕ)) (part : Part) (a b c : Seen) (e : DriveError) → ((bytes : List ℕ) → ArePart told part bytes → p.Wanted bytes) → IsPartLoaded told part a.port b.port → GoesOn a b → FlashFails p.name b c e → PutFails p a c e
-unfolding IsPartLoaded
+pub Fails-flashing : (p : Putting) (told : Option (List ℕ)) (part : Part) (a b c : Seen) (e : DriveError) → ((bytes : List ℕ) → ArePart told part bytes → p.Wanted bytes) → AreLoaded (ArePart told part) a.port b.port → GoesOn a b → FlashFails p.name b c e → PutFails p a c e
+unfolding AreLoaded
 Fails-flashing p told part a b c e wanted l g f =
-    let is = of-of (λ w. ArePart told part l.bytes) (λ w. p.Wanted l.bytes) (λ w x. wanted l.bytes x) a.port.peer l.part_is in
+    let is = of-of (λ w. ArePart told part l.bytes) (λ w. p.Wanted l.bytes) (λ w x. wanted l.bytes x) a.port.peer l.wanted in
     record {
       why = why-later p.Files a.port b.port c.port e g.kept (on-none (IsLoadedBy l.bytes) a.port.peer b.port.peer l.took) f.why;
       left = flash-left p (Rose b.port.faults c.port.faults) (Rose a.port.faults c.port.faults) l.bytes (λ r. (let n = g.kept.later in omega (arith, r, n))) a.port.peer b.port.peer c.port.peer is l.took f.left;
       stuck = flash-stuck p l.bytes a.port b.port c.port e g.kept is l.took f.stuck;
+      unshown = unshown-later e a.port.peer b.port.peer (on-none (IsLoadedBy l.bytes) a.port.peer b.port.peer l.took) f.unshown;
       quiet = of-both (λ w. Grew a.text b.text []) (λ w. Grew b.text c.text []) (λ w. Grew a.text c.text []) (λ w x y. Grew-append a.text b.text c.text [] [] x y) a.port.peer g.quiet
           (back-on (IsLoadedBy l.bytes) (Grew b.text c.text []) a.port.peer b.port.peer l.took f.quiet);
       grows = record { more = g.grows.more ++ f.grows.more; grew = Grew-append a.text b.text c.text g.grows.more f.grows.more g.grows.grew f.grows.grew };

@@ -51,7 +51,7 @@ use Rattle.host_driver.specs.Commands.{TookStep, RefusedStep, IsCommandOf}
 use Rattle.host_driver.specs.Driving.{Grows}
 use Rattle.host_driver.specs.HeardLast.{HeardThen, HeardAt, LogEnds}
 use Rattle.host_driver.specs.Jobs.{OfTold}
-use Rattle.host_driver.specs.Stepping.{IsServing, Serving, IsCommandAt, stop_of, IsStepped, IsBrokenIn, WhyStopped, IsStuck, NoFiles, IsStopped}
+use Rattle.host_driver.specs.Stepping.{IsServing, Serving, IsCommandAt, stop_of, IsStepped, IsBrokenIn, WhyStopped, IsStuck, IsUnshown, NoFiles, IsStopped}
 use Rattle.host_driver.specs.Wires.{command_wire, LogGrew}
 use Rattle.host_driver.proofs.HaltLemmas.{DecidedBy, command-decides, left-same, left-took}
 use Rattle.host_driver.proofs.StepLemmas.{decides-okay, decides-fail, took}
@@ -177,7 +177,7 @@ stepped-okay c s a b line at f k kept =
     }
 
 -- A refused step.
-same-lives : (s : Step) (broke : Type 0) (dev t : Dev) → is_fastboot dev.mode ≡ true → t ≡ dev → IsBrokenIn s broke dev t
+pub same-lives : (s : Step) (broke : Type 0) (dev t : Dev) → is_fastboot dev.mode ≡ true → t ≡ dev → IsBrokenIn s broke dev t
 same-lives s broke dev t f e = record { left = left-same s dev t f e; halted = λ h. absurd (let n : is_fastboot t.mode ≡ true = ap (λ (x : Dev). is_fastboot x.mode) e ∙ f in cc) }
 
 broken-fail : (broke more : Type 0) → (broke → more) → (c : CommandValue) (s : Step) (text : List ℕ) (w u : Wire) → Decides c s w → IsExchanged broke c (Fail text) w u → IsBrokenIn s more w.device u.device
@@ -209,6 +209,7 @@ stopped-fail c s a b d text at f k kept drops sound =
     let stuck = with-on (Decides c s) (IsExchanged broke c (Fail text)) (λ w u. Stuck s text more w.device u.device) (stuck-so broke more later c s text) a.port.peer b.port.peer q x in
     record {
       why = tt;
+      unshown = tt;
       left = told-off (IsBrokenIn s more) a.port.peer d.peer (on-hung (λ w u. IsBrokenIn s more w.device u.device) (λ w dev. IsBrokenIn s more w.device dev) (λ w u r. r) a.port.peer b.port.peer d.peer broken drops.left);
       stuck = told-off (Stuck s text more) a.port.peer d.peer
           (on-hung (λ w u. Stuck s text more w.device u.device) (λ w dev. Stuck s text more w.device dev) (λ w u r. r) a.port.peer b.port.peer d.peer stuck drops.left);
@@ -285,6 +286,32 @@ unstuck s a b (link.BadLength n) = tt
 unstuck s a b (link.BadReply reply) = tt
 unstuck s a b link.TooManyInfos = tt
 
+-- An output fails in a step only where no device is told.
+pub unshown-link : (e : LinkError) (a : Option Peer) → IsUnshown (stop_of e) a
+unshown-link link.Link a = tt
+unshown-link link.Ended a = tt
+unshown-link (link.BadHandshake four) a = tt
+unshown-link (link.BadLength n) a = tt
+unshown-link (link.BadReply reply) a = tt
+unshown-link link.TooManyInfos a = tt
+
+pub unshown-none : (infos : List Reply) (a : Option Peer) → 0 < length infos → OfLink (λ w. infos ≡ []) a → a ≡ None
+unshown-none infos None n e = refl
+unshown-none infos (Some (Apart dev)) n e = absurd e
+unshown-none infos (Some (Joined w)) n e = absurd (let l = ap length e in omega (arith, n, l))
+
+pub unshown-later : (e : DriveError) (a b : Option Peer) → (b ≡ None → a ≡ None) → IsUnshown e b → IsUnshown e a
+unshown-later stop.Memory a b n u = u
+unshown-later (stop.Directory file) a b n u = u
+unshown-later stop.Output a b n u = n u
+unshown-later stop.Link a b n u = u
+unshown-later stop.Ended a b n u = u
+unshown-later (stop.Refused text) a b n u = u
+unshown-later (stop.Peer kept) a b n u = u
+unshown-later stop.TooManyInfos a b n u = u
+unshown-later (stop.Requirement line name value) a b n u = u
+unshown-later (stop.Plan line kind) a b n u = u
+
 pub some-of : {X : Type 0} (o : Option X) → is_some o ≡ true → (x : X) × (o ≡ Some x)
 some-of None e = absurd cc
 some-of (Some x) e = (x, refl)
@@ -332,6 +359,7 @@ stopped-broken c s a b e error written same at f k w l cut x kept =
       why = why-broken c e a.port b.port w;
       left = cut-told c s a.port b.port at f x;
       stuck = unstuck s a.port b.port e;
+      unshown = unshown-link e a.port.peer;
       quiet = quiet-cut c a.port b.port (Grew a.text b.text []) x
           (of-of (λ w. k.infos ≡ []) (λ w. Grew a.text b.text []) (λ w e. shown-none k.infos a.text b.text k.shown e) a.port.peer (says-none c s k.infos k.lines a.port.peer d k.due));
       grows = record { more = shown_lines k.infos; grew = k.shown };
@@ -353,6 +381,7 @@ stopped-unshown c s a b at f k cut x kept = record {
   why = tt;
   left = cut-told c s a.port b.port at f x;
   stuck = tt;
+  unshown = unshown-none k.infos a.port.peer k.some (says-none c s k.infos k.lines a.port.peer (decides-at c s 4104 a.port.peer at f) k.due);
   quiet = quiet-cut c a.port b.port (Grew a.text b.text []) x
       (of-of (λ w. k.infos ≡ []) (λ w. Grew a.text b.text []) (λ w e. part-none k.infos a.text b.text k.shown e) a.port.peer (says-none c s k.infos k.lines a.port.peer (decides-at c s 4104 a.port.peer at f) k.due));
   grows = grows-part a.text b.text (shown_lines k.infos) k.shown;

@@ -3,7 +3,6 @@ use Rattle.std.specs.Prelude.{◌≡◌, ℕ, ◌+◌, ◌<◌, List, [], ◌++�
 use Rattle.std.specs.Prelude.{Option, Some, None, Result, Ok, Err, IsFalse}
 use Rattle.fb_frame.specs.Framing.{frame}
 use Rattle.fb_frame.specs.Sinks.{Grew}
-use Rattle.fb_frame.specs.Told.{Both}
 use Rattle.fb_message.specs.declared.reply.Reply.{Reply}
 use Rattle.fb_message.specs.declared.reply.Reply.TheVariants.{Okay, Fail}
 use Rattle.fb_message.specs.CommandText.{GetVar}
@@ -60,19 +59,19 @@ pub record ShowsSome (lines : List (List ℕ)) (before now : Option (List ℕ)) 
   pub count : ℕ
   pub grew : Grew before now (joined (take count lines))
 
--- A text grew by so many of the lines, and by a front of the next one that lacks at least one byte.
-pub record IsCutIn (lines : List (List ℕ)) (before now : List ℕ) : Type 0 where
+-- A told text grew by so many of the lines, and by a front of the next one that lacks at least one byte.
+pub record IsCutIn (lines : List (List ℕ)) (before now : Option (List ℕ)) : Type 0 where
   pub count : ℕ
   pub line : List ℕ
   pub next : slice_get lines count ≡ Some line
   pub n : ℕ
   pub short : n < length line
-  pub grew : now ≡ before ++ (joined (take count lines) ++ take n line)
+  pub grew : Grew before now (joined (take count lines) ++ take n line)
 
 -- what was shown of lines where an attempt broke off with this error: amid a line only where the output
 -- failed
 abbrev pub ShowsBy : List (List ℕ) → DriveError → Option (List ℕ) → Option (List ℕ) → Type 0
-ShowsBy lines stop.Output before now = Both (IsCutIn lines) before now
+ShowsBy lines stop.Output before now = IsCutIn lines before now
 ShowsBy lines _ before now = ShowsSome lines before now
 
 -- no device refuses a question

@@ -9,7 +9,6 @@ use Rattle.std.specs.Option.{option_map_or}
 use Rattle.fb_frame.specs.Framing.{head, frame}
 use Rattle.fb_frame.specs.Greeting.{handshake}
 use Rattle.fb_frame.specs.NameText.{is_name}
-use Rattle.fb_frame.specs.Numbers.{is_digit, read_dec, hex_worth}
 use Rattle.fb_message.specs.declared.reply.Reply.{Reply}
 use Rattle.fb_message.specs.declared.reply.Reply.TheVariants.{Okay, Fail, Load}
 use Rattle.fb_message.specs.CommandText.{CommandValue, GetVar, spelling}
@@ -21,6 +20,7 @@ use Rattle.fb_link.specs.Errors.{IsWrongLength}
 use Rattle.host_driver.specs.declared.drive.Done.{Done}
 use Rattle.host_driver.specs.declared.drive.DriveError.{DriveError}
 use Rattle.host_driver.specs.declared.drive.DriveError.TheVariants as stop
+use Rattle.host_driver.specs.SizeText.{size_read}
 use Rattle.std.specs.Prelude.{Result, Ok, Err}
 
 -- told bytes end with these
@@ -31,25 +31,6 @@ EndsWith told bytes = IfSome told (λ all. (front : List ℕ) × (all ≡ front 
 abbrev pub HeardThen : Option (List ℕ) → List ℕ → Type 0
 HeardThen told bytes =
     IfSome told (λ all. (before : List Reply) × (all ≡ (handshake 1 ++ reply_frames before) ++ bytes))
-
--- a hexadecimal digit in either case
-abbrev pub is_hex : ℕ → Bool
-is_hex b = is_digit b || ((nat_le 65 b && nat_le b 70) || (nat_le 97 b && nat_le b 102))
-
--- a letter in lower case
-abbrev pub lower : ℕ → ℕ
-lower b = if nat_le 65 b && nat_le b 70 then b + 32 else b
-
--- 1 to 16 hexadecimal digits
-abbrev pub is_hex_row : List ℕ → Bool
-is_hex_row text = nat_le 1 (length text) && (nat_le (length text) 16 && list_all is_hex text)
-
--- a size as a device tells it: `0x` and hexadecimal digits, or a decimal number
-abbrev pub size_read : List ℕ → Option ℕ
-size_read text =
-    if bytes_eq (take 2 text) (codes "0x")
-    then (if is_hex_row (drop 2 text) then Some (hex_worth (map lower (drop 2 text))) else None)
-    else read_dec text
 
 -- a slot's letter, with or without `_`
 abbrev pub is_slot : List ℕ → Bool

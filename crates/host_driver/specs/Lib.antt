@@ -1,6 +1,8 @@
 pub mod Jobs
 pub mod Driven
 pub mod Printing
+pub mod SizeText
+pub mod AnswerText
 pub mod HeardLast
 pub mod Wires
 pub mod Driving
@@ -16,3 +18,9 @@ pub mod Puts
 pub mod Beginning
 pub mod Attempting
 pub mod Leaving
+pub mod Questioning
+pub mod Deciding
+pub mod Finding
+pub mod Preparing
+pub mod Taking
+pub mod Running

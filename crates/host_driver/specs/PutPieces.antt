@@ -18,7 +18,7 @@ use Rattle.host_driver.specs.declared.drive.DriveError.TheVariants as stop
 use Rattle.host_driver.specs.Driving.{Grows}
 use Rattle.host_driver.specs.HeardLast.{HeardThen, HeardAt}
 use Rattle.host_driver.specs.LinkOuts.{IsSent}
-use Rattle.host_driver.specs.Stepping.{WhyStopped}
+use Rattle.host_driver.specs.Stepping.{WhyStopped, IsUnshown}
 use Rattle.host_driver.specs.Wires.{data_wire, download_wire, LogGrew}
 
 -- These bytes are those of the part, with its image, where the file is told, and as many in any case.
@@ -27,15 +27,15 @@ pub record ArePart (told : Option (List ℕ)) (part : Part) (bytes : List ℕ) :
   pub wanted : IfSome told (λ file. bytes ≡ part_bytes part file)
   pub holds : HasPartImage part told
 
--- All data of a download was sent; over a told connection it is the part.
-pub record SendsPart (told : Option (List ℕ)) (part : Part) (old new : PortTold) : Type 0 where
+-- All data of a download was sent; over a told connection it is what is wanted.
+pub record SendsBytes (Wanted : List ℕ → Type 0) (old new : PortTold) : Type 0 where
   pub bytes : List ℕ
-  pub part_is : OfLink (λ w. ArePart told part bytes) old.peer
+  pub wanted : OfLink (λ w. Wanted bytes) old.peer
   pub sent : IsSent bytes (data_wire bytes) old new
   pub sending : Downloading 0 new.peer
 
-unfoldable pub IsPartSent : Option (List ℕ) → Part → PortTold → PortTold → Type 0
-IsPartSent told part old new = SendsPart told part old new
+unfoldable pub AreSent : (List ℕ → Type 0) → PortTold → PortTold → Type 0
+AreSent Wanted old new = SendsBytes Wanted old new
 
 -- The download of so many bytes was announced, after so many lines, and none of its data came yet.
 pub record HasBegun (size : ℕ) (old new : Seen) (lines : ℕ) : Type 0 where
@@ -69,6 +69,7 @@ pub record IsUnloaded (Files : List ℕ → Type 0) (Before : Type 0) (old new :
   pub why : WhyStopped Files old.port new.port error
   pub given_up : IsGivenUp old.port new.port
   pub unrefused : Unrefused error old.port.peer
+  pub unshown : IsUnshown error old.port.peer
   pub quiet : OfLink (λ w. Grew old.text new.text []) old.port.peer
   pub grows : Grows old.text new.text
   pub heard : Before → HeardAt new.port error
@@ -81,15 +82,15 @@ pub record IsLoadedBy (bytes : List ℕ) (w v : Wire) : Type 0 where
   pub running : v.closed ≡ false
   pub taken : v.taken ≡ w.taken + length (download_wire bytes)
 
--- The part was downloaded, and a told log grew by that; over a told connection it is loaded.
-pub record LoadsPart (told : Option (List ℕ)) (part : Part) (old new : PortTold) : Type 0 where
+-- What is wanted was downloaded, and a told log grew by that; over a told connection it is loaded.
+pub record LoadsBytes (Wanted : List ℕ → Type 0) (old new : PortTold) : Type 0 where
   pub bytes : List ℕ
-  pub part_is : OfLink (λ w. ArePart told part bytes) old.peer
+  pub wanted : OfLink (λ w. Wanted bytes) old.peer
   pub took : OnLink (IsLoadedBy bytes) old.peer new.peer
   pub log : LogGrew old.log new.log (λ wire. OfLink (λ w. wire ≡ download_wire bytes) old.peer)
 
-unfoldable pub IsPartLoaded : Option (List ℕ) → Part → PortTold → PortTold → Type 0
-IsPartLoaded told part old new = LoadsPart told part old new
+unfoldable pub AreLoaded : (List ℕ → Type 0) → PortTold → PortTold → Type 0
+AreLoaded Wanted old new = LoadsBytes Wanted old new
 
 -- Commands were answered that change no device: of a told one nothing was shown.
 pub record GoesOn (old new : Seen) : Type 0 where

@@ -27,7 +27,7 @@ use Rattle.host_driver.specs.Driven.{IsHaltedNow}
 use Rattle.host_driver.specs.Driving.{Grows}
 use Rattle.host_driver.specs.HeardLast.{HeardThen, HeardAt}
 use Rattle.host_driver.specs.PutPieces.{GoesOn}
-use Rattle.host_driver.specs.Stepping.{Serving, WhyStopped, NoFiles, IsStepped, IsStopped}
+use Rattle.host_driver.specs.Stepping.{Serving, WhyStopped, NoFiles, IsStepped, IsStopped, IsUnshown, IsFixed}
 use Rattle.host_driver.specs.Jobs.{OfTold}
 use Rattle.host_driver.specs.Wires.{command_wire, download_wire, part_wire, IsPut, LogGrew}
 
@@ -56,6 +56,7 @@ pub record FlashFails (name : List ℕ) (old new : Seen) (error : DriveError) : 
   pub left : OffLink (λ w t. IsFlashLeft (Rose old.port.faults new.port.faults) name (loaded_image w.loaded) w.device t)
       old.port.peer new.port.peer
   pub stuck : IsFlashStuck error name old.port new.port
+  pub unshown : IsUnshown error old.port.peer
   pub quiet : OfLink (λ w. Grew old.text new.text []) old.port.peer
   pub grows : Grows old.text new.text
   pub heard : HeardThen old.port.heard [] → HeardAt new.port error
@@ -105,6 +106,7 @@ pub record PutFails (p : Putting) (old new : Seen) (error : DriveError) : Type 0
   pub why : WhyStopped p.Files old.port new.port error
   pub left : OfTold old.port.peer new.port.peer (IsPieceLeft p (Rose old.port.faults new.port.faults))
   pub stuck : IsPieceStuck error p old.port new.port
+  pub unshown : IsUnshown error old.port.peer
   pub quiet : OfLink (λ w. Grew old.text new.text []) old.port.peer
   pub grows : Grows old.text new.text
   pub heard : HeardThen old.port.heard [] → HeardAt new.port error
@@ -152,6 +154,7 @@ pub record PutsSoFar (p : Whole) (c : Cutting) (old new : Seen) : Type 0 where
   pub serving : (spare : ℕ) → Serving (image_cost p.kept + spare) old.port.peer
       → Serving (left_cost c + spare) new.port.peer
   pub fits : OfLink (λ w. p.most ≤ w.device.max) new.port.peer
+  pub fixed : OfTold old.port.peer new.port.peer IsFixed
   pub goes : GoesOn old new
 
 unfoldable pub IsPutSoFar : Whole → Cutting → Seen → Seen → Type 0
@@ -163,6 +166,7 @@ pub record HasPutAll (p : Whole) (old new : Seen) : Type 0 where
       (λ wire. OfLink (λ w. IsPut p.name file p.kept p.most wire) old.port.peer)
       (Put p.name (kept_cells p.kept file)) old new)
   pub serving : (spare : ℕ) → Serving (image_cost p.kept + spare) old.port.peer → Serving spare new.port.peer
+  pub fixed : OfTold old.port.peer new.port.peer IsFixed
   pub goes : GoesOn old new
 
 -- An attempt broke off in an image: where the file is told, in its step.
@@ -171,6 +175,8 @@ pub record PutBreaks (Files : List ℕ → Type 0) (p : Whole) (old new : Seen) 
     pub stopped : IfSome p.told (λ file. IsStopped Files (Put p.name (kept_cells p.kept file)) old new error)
     pub lives : OfTold old.port.peer new.port.peer
         (λ s t. t.mode ≡ Halted → Rose old.port.faults new.port.faults)
+    pub fixed : OfTold old.port.peer new.port.peer IsFixed
+    pub unshown : IsUnshown error old.port.peer
     pub why : WhyStopped Files old.port new.port error
     pub quiet : OfLink (λ w. Grew old.text new.text []) old.port.peer
     pub grows : Grows old.text new.text

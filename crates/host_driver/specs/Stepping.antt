@@ -95,6 +95,16 @@ IsStuck step old new (stop.Refused text) = OfTold old.peer new.peer (λ s t.
     RefusedStep step text s t ⊎ IsHaltedNow old.faults new.faults text t)
 IsStuck step old new _ = Unit {0}
 
+-- of a told device nothing is shown in a step, so that no output fails
+abbrev pub IsUnshown : DriveError → Option Peer → Type 0
+IsUnshown stop.Output a = a ≡ None
+IsUnshown _ a = Unit {0}
+
+-- what no step changes: the most bytes of a download, and the name of super
+pub record IsFixed (s t : Dev) : Type 0 where
+  pub most : t.max ≡ s.max
+  pub super_name : t.super_name ≡ s.super_name
+
 -- The attempt broke off in a step with this error, and the connection is down. Of a told device nothing was
 -- shown.
 pub record IsStopped (Files : List ℕ → Type 0) (step : Step) (old new : Seen) (error : DriveError) :
@@ -102,6 +112,7 @@ pub record IsStopped (Files : List ℕ → Type 0) (step : Step) (old new : Seen
   pub why : WhyStopped Files old.port new.port error
   pub left : OfTold old.port.peer new.port.peer (IsBrokenIn step (Rose old.port.faults new.port.faults))
   pub stuck : IsStuck step old.port new.port error
+  pub unshown : IsUnshown error old.port.peer
   pub quiet : OfTold old.port.peer new.port.peer (λ s t. Grew old.text new.text [])
   pub grows : Grows old.text new.text
   pub heard : HeardThen old.port.heard [] → HeardAt new.port error

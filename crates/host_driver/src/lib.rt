@@ -6,8 +6,10 @@ ghost use Rattle.host_driver.specs.Leaving.{LeavesMore, LeavesUnmet, LeavesBefor
 ghost use Rattle.host_driver.specs.Commands.{Decisions};
 ghost use Rattle.host_driver.specs.Completing.{Completes, RefusesExactly};
 ghost use Rattle.host_driver.specs.Excluded.{Excluded};
+ghost use Rattle.host_driver.specs.Running.{ImagesKept, PlanOwns, PlanSuits};
 
 pub mod ask;
+mod asking_parts;
 pub mod before;
 pub mod begin;
 pub mod drive;
@@ -15,10 +17,17 @@ pub mod lines;
 pub mod link_out;
 pub mod load_piece;
 pub mod log_port;
+pub mod prepare;
 pub mod put;
 mod put_piece;
+mod questions;
+mod requirements;
+pub mod running;
 pub mod send_piece;
+pub mod size;
 pub mod step;
+pub mod steps;
+mod tables;
 
 /// The laws of installations.
 pub fn laws()
@@ -35,4 +44,11 @@ pub fn attempt_laws()
     ensures leaves_unmet { LeavesUnmet }
     ensures leaves_before { LeavesBefore }
     ensures leaves_unplanned { LeavesUnplanned }
+{}
+
+/// What the steps of a plan need is there where the product is a folder's and the plan is made for its device.
+pub fn plan_laws()
+    ensures images_kept { ImagesKept }
+    ensures plan_owns { PlanOwns }
+    ensures plan_suits { PlanSuits }
 {}

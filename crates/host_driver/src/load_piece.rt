@@ -8,7 +8,7 @@ ghost use Rattle.wire_told.specs.Answered.{Free, Downloading};
 ghost use Rattle.wire_told.specs.Peers.{OfLink};
 ghost use Rattle.host_driver.specs.HeardLast.{HeardThen};
 ghost use Rattle.host_driver.specs.PutPieces.{HasBegun, HasEnded, HeardLoad, IsUnloaded};
-ghost use Rattle.host_driver.specs.PutPieces.{IsPartLoaded, GoesOn, IsUnread};
+ghost use Rattle.host_driver.specs.PutPieces.{AreLoaded, ArePart, GoesOn, IsUnread};
 ghost use Rattle.host_driver.specs.Stepping.{TakesAll, NoFiles};
 
 use crate::drive::DriveError;
@@ -25,7 +25,7 @@ use sparse_image::source::Bytes;
 
 /// Announces a download of so many bytes.
 #[tactic(auto, using(crate::proofs::LoadLemmas::announces))]
-fn announce<P: Port, S: Sink>(
+pub(crate) fn announce<P: Port, S: Sink>(
     ready: Ready<P>,
     size: u32,
     shown: &mut S,
@@ -54,7 +54,7 @@ fn announce<P: Port, S: Sink>(
 }
 
 /// Hears the end of a download of which all data was sent.
-fn conclude<P: Port, S: Sink>(
+pub(crate) fn conclude<P: Port, S: Sink>(
     sending: Sending<P>,
     shown: &mut S,
 ) -> Result<Ready<P>, (Lost<P>, DriveError)>
@@ -95,7 +95,7 @@ pub(crate) fn load_piece<P: Port, B: Bytes, S: Sink>(
     requires len { B.size source.old ≡ piece.now.kept.source_len }
     requires told { IsChecked (B.content source.old) (Ok piece.now.kept) }
     ensures loaded { IfOk result (λ r.
-        IsPartLoaded (B.content source.old) piece.now (P.told ready) (P.told r)) }
+        AreLoaded (ArePart (B.content source.old) piece.now) (P.told ready) (P.told r)) }
     ensures goes { IfOk result (λ r.
         GoesOn (seen (P.told ready) (S.text shown.old)) (seen (P.told r) (S.text shown.new))) }
     ensures unloaded { IfErr result (λ e. IsUnloaded

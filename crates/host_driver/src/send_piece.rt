@@ -4,7 +4,7 @@ ghost use Rattle.fb_frame.specs.Causes.{Rose};
 ghost use Rattle.sparse_image.specs.Cuts.{part_len};
 ghost use Rattle.sparse_image.specs.Walks.{IsChecked};
 ghost use Rattle.host_driver.specs.LinkOuts.{IsSending, HasGivenUp, data_by};
-ghost use Rattle.host_driver.specs.PutPieces.{IsPartSent};
+ghost use Rattle.host_driver.specs.PutPieces.{AreSent, ArePart};
 
 use crate::before::Before;
 use crate::link_out::LinkOut;
@@ -29,7 +29,7 @@ fn send_since<P: Port, F: Before, B: Bytes>(
     requires len { B.size source.old ≡ piece.now.kept.source_len }
     requires told { IsChecked (B.content source.old) (Ok piece.now.kept) }
     ensures sent { IfOk result (λ s.
-        IsPartSent (B.content source.old) piece.now F.before (P.told s.port)) }
+        AreSent (ArePart (B.content source.old) piece.now) F.before (P.told s.port)) }
     ensures left { IfOk result (λ s. s.left ≡ 0) }
     ensures lines { IfOk result (λ s. s.lines ≡ parts.lines) }
     ensures same { IfOk result (λ s. P.lent s.port ≡ P.lent parts.port) }
@@ -69,7 +69,7 @@ pub fn send_piece<P: Port, B: Bytes>(
     requires len { B.size source.old ≡ piece.now.kept.source_len }
     requires told { IsChecked (B.content source.old) (Ok piece.now.kept) }
     ensures sent { IfOk result (λ s.
-        IsPartSent (B.content source.old) piece.now (P.told sending.port) (P.told s.port)) }
+        AreSent (ArePart (B.content source.old) piece.now) (P.told sending.port) (P.told s.port)) }
     ensures left { IfOk result (λ s. s.left ≡ 0) }
     ensures lines { IfOk result (λ s. s.lines ≡ sending.lines) }
     ensures same { IfOk result (λ s. P.lent s.port ≡ P.lent sending.port) }

@@ -1,7 +1,7 @@
-use Rattle.std.proofs.Common.{subst, sym, ◌≤◌}
+use Rattle.std.proofs.Common.{subst, sym, ◌∙◌, ◌≤◌}
 use Rattle.wire_told.specs.Peers.{OfLink}
 use Rattle.fb_link.specs.Seen.{seen}
-use Rattle.host_driver.specs.PutPieces.{HasEnded, IsUnloaded, HeardLoad}
+use Rattle.host_driver.specs.PutPieces.{ArePart, HasEnded, IsUnloaded, HeardLoad}
 use Rattle.host_driver.specs.Stepping.{NoFiles}
 use Rattle.host_driver.proofs.LoadLemmas.{Goes-on, Loads-all, Unloaded-read, Unloaded-link, Unloaded-ended}
 use Rattle.host_driver.proofs.load_piece.load_piece.Goals as goal
@@ -14,7 +14,7 @@ returns-in-Ok-conclude-clause-loaded g c =
     let middle = seen (told sent.sending.port) (text c.announce.new.shown) in
     let last = seen (told c.in-Ok-conclude.ready) (text c.conclude.new.shown) in
     let ended = subst (λ k. HasEnded k middle last) sent.ensures.lines c.in-Ok-conclude.ensures.ended in
-    Loads-all (g.B.Bytes.content c.args.source.now) c.args.piece.now c.size.result c.in-Ok.sending.lines _ _ (told sent.sending.port) last c.size.ensures c.in-Ok.ensures.begun sent.ensures.sent ended
+    Loads-all (ArePart (g.B.Bytes.content c.args.source.now) c.args.piece.now) c.size.result c.in-Ok.sending.lines _ _ (told sent.sending.port) last (λ bytes p. p.long ∙ sym c.size.ensures) c.in-Ok.ensures.begun sent.ensures.sent ended
 
 pub returns-in-Ok-conclude-clause-goes : goal.returns-in-Ok-conclude-clause-goes
 returns-in-Ok-conclude-clause-goes g c =
@@ -25,7 +25,7 @@ returns-in-Ok-conclude-clause-goes g c =
     let last = seen (told c.in-Ok-conclude.ready) (text c.conclude.new.shown) in
     let ended = subst (λ k. HasEnded k middle last) sent.ensures.lines c.in-Ok-conclude.ensures.ended in
     let fits = subst (λ m. OfLink (λ w. m ≤ w.device.max) (told c.args.ready).peer) (sym c.size.ensures) c.requires.fits in
-    Goes-on (g.B.Bytes.content c.args.source.now) c.args.piece.now c.size.result c.in-Ok.sending.lines _ _ (told sent.sending.port) last fits c.in-Ok.ensures.begun sent.ensures.sent ended
+    Goes-on (ArePart (g.B.Bytes.content c.args.source.now) c.args.piece.now) c.size.result c.in-Ok.sending.lines _ _ (told sent.sending.port) last fits c.in-Ok.ensures.begun sent.ensures.sent ended
 
 pub returns-in-Err-conclude-clause-unloaded : goal.returns-in-Err-conclude-clause-unloaded
 returns-in-Err-conclude-clause-unloaded g c =
@@ -38,7 +38,7 @@ returns-in-Err-conclude-clause-unloaded g c =
     let last = seen (told stop.0) (text c.conclude.new.shown) in
     let ended = subst (λ k. IsUnloaded NoFiles (HeardLoad k port.heard) middle last stop.1) sent.ensures.lines c.in-Err-conclude.ensures.unloaded in
     let fits = subst (λ m. OfLink (λ w. m ≤ w.device.max) (told c.args.ready).peer) (sym c.size.ensures) c.requires.fits in
-    Unloaded-ended _ (g.B.Bytes.content c.args.source.now) c.args.piece.now c.size.result c.in-Ok.sending.lines _ _ port last stop.1 fits c.in-Ok.ensures.begun sent.ensures.sent ended
+    Unloaded-ended _ (ArePart (g.B.Bytes.content c.args.source.now) c.args.piece.now) c.size.result c.in-Ok.sending.lines _ _ port last stop.1 fits c.in-Ok.ensures.begun sent.ensures.sent ended
 
 pub returns-in-Err-default-Read-clause-unloaded : goal.returns-in-Err-default-Read-clause-unloaded
 returns-in-Err-default-Read-clause-unloaded g c =
