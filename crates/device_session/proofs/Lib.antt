@@ -1,0 +1,4 @@
+pub mod ScriptLemmas
+pub mod FramerLemmas
+pub mod InletLemmas
+pub mod CallLemmas
