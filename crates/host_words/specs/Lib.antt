@@ -1,0 +1,4 @@
+pub mod Requests
+pub mod Targets
+pub mod Words
+pub mod Rows
