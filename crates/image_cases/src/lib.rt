@@ -12,4 +12,8 @@ mod readings;
 #[cfg(test)]
 mod states;
 #[cfg(test)]
+mod store_creates;
+#[cfg(test)]
 mod store_parts;
+#[cfg(test)]
+mod store_tables;

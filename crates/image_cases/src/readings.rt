@@ -18,6 +18,9 @@ const LISTS: usize = TABLE + 128;
 
 const COPIES: [usize; 4] = [TABLE, TABLE + 16_384, TABLE + 32_768, TABLE + 49_152];
 
+/// Where the limit of the one group lies in the lists.
+const LIMIT: usize = 216;
+
 /// The sector at which the first unit begins.
 const FIRST: u64 = 152;
 
@@ -83,19 +86,25 @@ fn table_of(alloc: Global, image: &[u8], lists: &[u8]) -> Result<Vec<u8>, Fail> 
     Ok(table)
 }
 
-/// An image with those partitions.
-pub fn image_with_partitions(alloc: Global) -> Result<Vec<u8>, Fail> {
+/// An image with those partitions, which together hold at most so many bytes, any number where that is 0.
+pub fn image_with_limit(alloc: Global, limit: u64) -> Result<Vec<u8>, Fail> {
     let layout = read_layout(alloc, LAYOUT.as_bytes())?;
     let mut disk = MemoryDisk::new(alloc, Vec::new(alloc))?;
     make(alloc, &mut disk, "image", &layout, true)?;
     let mut bytes = Vec::new(alloc);
     bytes.extend_from_slice(disk.file("image").unwrap_or(b""))?;
-    let lists = lists_of(alloc, &bytes)?;
+    let mut lists = lists_of(alloc, &bytes)?;
+    put(&mut lists, LIMIT, &limit.to_le_bytes());
     let table = table_of(alloc, &bytes, &lists)?;
     for copy in COPIES {
         put(&mut bytes, copy, &table);
     }
     Ok(bytes)
+}
+
+/// An image with those partitions.
+pub fn image_with_partitions(alloc: Global) -> Result<Vec<u8>, Fail> {
+    image_with_limit(alloc, 0)
 }
 
 /// Whether the text is that of the name, or empty where there is none.

@@ -15,9 +15,9 @@ const UNITS: usize = 221_184;
 const UNIT: usize = 4_096;
 
 /// An answer, and bytes: those that were read, or the image that was left.
-type Outcome = (String, Vec<u8>);
+pub type Outcome = (String, Vec<u8>);
 
-fn name_of(text: &str) -> Result<Name, Fail> {
+pub fn name_of(text: &str) -> Result<Name, Fail> {
     match Name::read(text.as_bytes()) {
         Some(name) => Ok(name),
         None => Err(Fail::new("no name")),
@@ -25,14 +25,14 @@ fn name_of(text: &str) -> Result<Name, Fail> {
 }
 
 /// A disk that holds the image, and whose call of this number fails.
-fn disk_of(alloc: Global, image: &[u8], call: u64) -> Result<MemoryDisk, Fail> {
+pub fn disk_of(alloc: Global, image: &[u8], call: u64) -> Result<MemoryDisk, Fail> {
     let mut disk = MemoryDisk::new(alloc, vec![in alloc; call]?)?;
     disk.add(alloc, "image", image)?;
     Ok(disk)
 }
 
 /// The image that a disk holds.
-fn image_of(alloc: Global, disk: &MemoryDisk) -> Result<Vec<u8>, Fail> {
+pub fn image_of(alloc: Global, disk: &MemoryDisk) -> Result<Vec<u8>, Fail> {
     Ok(Vec::from_slice(alloc, disk.file("image").unwrap_or(b""))?)
 }
 
@@ -73,7 +73,7 @@ fn fill(
 }
 
 /// Reads so many bytes of a partition of an image, and once more after a fault.
-fn read(
+pub fn read(
     alloc: Global,
     image: &[u8],
     call: u64,
