@@ -13,10 +13,11 @@ use Rattle.wire_model.proofs.Items.{after_part}
 use Rattle.wire_told.proofs.Going.{goes-append, goes-nothing, goes-plain}
 use Rattle.device_session.specs.Calls.{Call, Feed, Drain, fed, drained, Calls, OneConnection, LockedConnection}
 
-abbrev ahead : List ℕ → Wire → Wire
+abbrev pub ahead : List ℕ → Wire → Wire
 ahead before w = record w { out = before ++ w.out }
 
-because : (broke : Type 0) (w v : Wire) (bytes : List ℕ) → broke → (v ≡ after w bytes) ⊎ Faults w bytes v → GoesBy broke w bytes v
+-- what follows, where there is a cause for a fault
+pub because : (broke : Type 0) (w v : Wire) (bytes : List ℕ) → broke → (v ≡ after w bytes) ⊎ Faults w bytes v → GoesBy broke w bytes v
 unfolding GoesBy
 because broke w v bytes c (inl e) = inl e
 because broke w v bytes c (inr f) = inr (c, f)
@@ -27,7 +28,7 @@ unfolding GoesBy
 apart broke x w v bytes (inl e) = inl (ap (ahead x) e ∙ sym (output_apart w x bytes))
 apart broke x w v bytes (inr f) = because broke (ahead x w) (ahead x v) bytes f.0 (goes_apart w v x bytes (inr f.1))
 
-goes-ahead : (broke : Type 0) (before : List ℕ) (w v : Wire) (bytes : List ℕ) → GoesBy broke w bytes v →
+pub goes-ahead : (broke : Type 0) (before : List ℕ) (w v : Wire) (bytes : List ℕ) → GoesBy broke w bytes v →
     GoesBy broke (ahead before w) bytes (ahead before v)
 unfolding GoesBy
 goes-ahead broke x w v bytes g = apart broke x w v bytes g
@@ -50,7 +51,7 @@ joined-calls broke first w v x d (Drain bytes ∷ calls) g (u, same, more) =
     (joined-calls broke first u v x (d ++ bytes) calls
     (subst (λ (s : Wire). GoesBy broke first x s) out g) more)
 
-fresh-settled : (dev : Dev) → after (fresh dev) [] ≡ fresh dev
+pub fresh-settled : (dev : Dev) → after (fresh dev) [] ≡ fresh dev
 fresh-settled dev = after_part (fresh dev) [] refl (omega arith) refl
 
 pub one_connection : OneConnection

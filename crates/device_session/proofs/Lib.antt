@@ -2,3 +2,13 @@ pub mod ScriptLemmas
 pub mod FramerLemmas
 pub mod InletLemmas
 pub mod CallLemmas
+pub mod RunLemmas
+pub mod StillLemmas
+pub mod HeardLemmas
+pub mod FeedLemmas
+pub mod OrderLemmas
+pub mod TurnLemmas
+pub mod LifeLemmas
+pub mod TalkLemmas
+pub mod KeptLemmas
+pub mod ServeLemmas

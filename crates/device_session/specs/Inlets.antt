@@ -1,5 +1,5 @@
 -- What a session takes of its connection, and what the bytes complete.
-use Rattle.std.specs.Prelude.{◌≡◌, ℕ, ◌+◌, ◌==◌, Bool, List, [], ◌++◌, length}
+use Rattle.std.specs.Prelude.{◌≡◌, ℕ, ◌+◌, ◌==◌, Bool, true, false, List, [], ◌++◌, length}
 use Rattle.std.specs.Prelude.{Some, None, is_some, if◌then◌else◌}
 use Rattle.fb_frame.specs.Greeting.{read_handshake}
 use Rattle.fb_frame.specs.Stages as frames
@@ -28,6 +28,12 @@ abbrev pub phase_of : Awaits → List ℕ → Phase
 phase_of Shake got = wire.Shake
 phase_of Command got = wire.Command
 phase_of (Data count) got = wire.Data count got
+
+-- the handshake is awaited
+abbrev pub is_shaking : Phase → Bool
+is_shaking wire.Shake = true
+is_shaking wire.Command = false
+is_shaking (wire.Data count got) = false
 
 -- data is awaited
 abbrev pub IsData : Phase → Type 0

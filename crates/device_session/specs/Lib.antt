@@ -5,3 +5,8 @@ pub mod Framer
 pub mod Inlets
 pub mod InletKept
 pub mod Calls
+pub mod Answering
+pub mod Living
+pub mod Lives
+pub mod Serving
+pub mod Talking

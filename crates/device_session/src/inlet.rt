@@ -3,7 +3,7 @@ ghost use Rattle.std.specs.Prelude.{◌≡◌, ◌+◌, ◌^◌, ◌<◌, ◌≤
 ghost use Rattle.std.specs.Prelude.{vec_capacity, IfSome, IsSome, option_map};
 ghost use Rattle.fb_frame.specs.Greeting.{read_handshake};
 ghost use Rattle.wire_model.specs.Wire as wire;
-ghost use Rattle.device_session.specs.Inlets.{ComesTo, IsData, IsReceived};
+ghost use Rattle.device_session.specs.Inlets.{ComesTo, IsData, IsReceived, is_shaking};
 
 use crate::framer::{Heard, take_frame};
 use fb_frame::deframer::Deframer;
@@ -272,6 +272,34 @@ impl Inlet {
             Some(self.download.as_slice())
         } else {
             None
+        }
+    }
+
+    /// The longest download that there is room for.
+    pub fn room(&self) -> u32
+        ensures room { result ≡ self.now.room }
+    {
+        self.room
+    }
+
+    /// Whether the handshake is awaited.
+    pub fn is_shaking(&self) -> bool
+        ensures shaking { result ≡ is_shaking self.now.phase }
+    {
+        match self.awaits {
+            Awaits::Shake => true,
+            Awaits::Command | Awaits::Data(_) => false,
+        }
+    }
+
+    /// Why a head is refused that gives too much.
+    pub fn excess(&self) -> &'static [u8]
+        ensures text { result.now ≡ wire.too_long self.now.phase }
+        ensures short { length result.now ≤ 252 }
+    {
+        match self.awaits {
+            Awaits::Shake | Awaits::Command => b"command too long",
+            Awaits::Data(_) => b"too much data",
         }
     }
 

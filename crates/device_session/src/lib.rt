@@ -7,8 +7,12 @@ mod framer;
 pub mod gate;
 pub mod inlet;
 pub mod outbox;
+pub mod responder;
 pub mod room;
 pub mod script_gate;
+pub mod serving;
+pub mod session;
+mod talk;
 pub mod tcp_gate;
 #[cfg(test)]
 mod tests;

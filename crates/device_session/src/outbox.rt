@@ -1,9 +1,10 @@
 //! What a session has answered and didn't give on yet.
-ghost use Rattle.std.specs.Prelude.{◌≡◌, ◌+◌, ◌≤◌, length, drop};
+ghost use Rattle.std.specs.Prelude.{◌≡◌, ◌+◌, ◌≤◌, [], length, drop};
 ghost use Rattle.fb_frame.specs.Greeting.{handshake};
-ghost use Rattle.device_engine.specs.Replied.{none_framed};
+ghost use Rattle.device_engine.specs.Replied.{none_framed, reply_frame};
 
 use device_engine::replies::Replies;
+use fb_message::reply::Reply;
 use std::marker::Model;
 
 /// The handshake that a device sends.
@@ -70,6 +71,17 @@ impl Outbox {
         let mut replies = self.replies;
         replies.clear();
         replies
+    }
+
+    /// Says this, where nothing is left to give on.
+    pub fn say(&mut self, reply: &Reply)
+        requires empty { self.old ≡ [] }
+        ensures said { self.new ≡ reply_frame reply.now }
+    {
+        self.greeted = GREETING.len();
+        self.given = 0;
+        self.replies.clear();
+        self.replies.push(reply);
     }
 
     /// What is left to give on.
