@@ -68,6 +68,7 @@ pub fn set_device(alloc: Global, dev: &mut Dev, word: &str, text: &str) -> anyho
         "group" => return add_group(dev, text),
         "mode" => return Ok(set_mode(dev, text)),
         "super" => return Ok(set_super(dev, text)),
+        "locked" if text.is_empty() => dev.locked = true,
         _ => return Ok(set_number(dev, word, text).is_some()),
     }
     Ok(true)

@@ -9,6 +9,9 @@
 //! - `physical NAME BYTES`: a partition, which is full of 0xEE
 //! - `super NAME`, `super-size BYTES`, `unit BYTES`, `units COUNT`, `table-size BYTES`, `table-slots COUNT`
 //! - `group NAME BYTES`: the most that the group's partitions may have, 0 without such a bound
+//! - `locked`: without this line the device is unlocked
+//! - `image`, behind all of these: an image in memory stands for the device as well, and each session is held by
+//!   it too, by a device's session over it, with the bytes whole, one by one, and in pieces of drawn lengths
 //!
 //! Each `session TITLE` after them meets the device as it was described. Its lines:
 //!
@@ -20,11 +23,19 @@
 //! - `closes`: the connection is closed at the end, and else it's open
 //! - `waits`: until the last byte, the device says its handshake alone
 //! - `leaves-mode MODE`, `leaves-file FILE`: the device's mode, and its one partition's bytes, at the end
+//! - `fails COUNT`: of the device over an image alone, whose disk fails once, at its call of this number after opening; and then
+//!   `opens-in MODE`: in which mode the image opens that is left
+//! - `puts NAME FILE`, `wipes NAME`, `resizes NAME BYTES`, `boots MODE`: a step of an installation; these steps, run
+//!   over the device as it was, lead to the device that the session leaves
 #![tactic(auto)]
 
+mod cuttings;
 mod device_lines;
+mod image;
+mod layout_text;
 mod payloads;
 mod session;
+mod steps;
 mod table;
 
 use crate::table::Table;

@@ -1,6 +1,10 @@
+use crate::cuttings::{Cutting, answers_of};
 use crate::device_lines::mode_of;
+use crate::image::{disk_of, mode_in, opening_calls, stands_for};
 use crate::payloads::payload_of;
+use crate::steps::{lead, step_of};
 use dev_model::device::{Dev, Mode};
+use dev_model::step::Step;
 use fb_frame::framing::frame_head;
 use fb_frame::memory::Memory;
 use std::alloc::{AllocError, Global};
@@ -22,6 +26,9 @@ pub struct Session {
     waits: bool,
     mode: Option<Mode>,
     left: Option<Vec<u8>>,
+    steps: Vec<Step>,
+    fails: Option<u64>,
+    opens: Option<Mode>,
 }
 
 fn add_frame(stream: &mut Vec<u8>, payload: &[u8]) -> Result<(), AllocError> {
@@ -42,6 +49,9 @@ impl Session {
             waits: false,
             mode: None,
             left: None,
+            steps: Vec::new(alloc),
+            fails: None,
+            opens: None,
         })
     }
 
@@ -56,11 +66,16 @@ impl Session {
             add_frame(&mut self.sent, payload.as_slice())?;
             return Ok(true);
         }
+        if let Some(step) = step_of(rt, word, text)? {
+            self.steps.push(step)?;
+            return Ok(true);
+        }
         match word {
             "handshake" => return self.shake(rt.alloc(), text),
             "answers" => add_frame(&mut self.answered, text.as_bytes())?,
             "leaves-file" => self.left = Some(fs::read(rt, text)?),
             "leaves-mode" => return Ok(self.leave_mode(text)),
+            "fails" | "opens-in" => return Ok(self.fail(word, text)),
             _ => return Ok(self.mark(word, text)),
         }
         Ok(true)
@@ -80,6 +95,16 @@ impl Session {
         self.mode.is_some()
     }
 
+    /// Takes a line of a session whose disk fails.
+    fn fail(&mut self, word: &str, text: &str) -> bool {
+        if word == "fails" {
+            self.fails = text.parse().ok();
+            return self.fails.is_some();
+        }
+        self.opens = mode_of(text);
+        self.opens.is_some()
+    }
+
     /// Takes a line of one word.
     fn mark(&mut self, word: &str, text: &str) -> bool {
         match (word, text) {
@@ -90,13 +115,92 @@ impl Session {
         true
     }
 
-    /// What isn't as the session says, with the device as it is before it.
-    pub fn flaw(&self, alloc: Global, dev: &Dev) -> Result<Option<&'static str>, Memory> {
+    /// What isn't as the session says, with the device as it is before it, and the image that stands for it.
+    pub fn flaw(
+        &self,
+        alloc: Global,
+        dev: &Dev,
+        image: Option<&[u8]>,
+    ) -> anyhow::Result<Option<&'static str>> {
+        if let Some(call) = self.fails {
+            return self.flaw_failing(alloc, image.unwrap_or(b""), call);
+        }
         if self.waits && !waits(alloc, dev, self.sent.as_slice())? {
             return Ok(Some("the device doesn't wait for the last byte"));
         }
         let served = serves(alloc, dev, self.sent.as_slice())?;
-        Ok(self.flaw_of(&served))
+        let steps = self.steps.as_slice();
+        if !steps.is_empty() && !lead(alloc, steps, dev, &served.after)? {
+            return Ok(Some("the steps lead elsewhere"));
+        }
+        match (self.flaw_of(&served), image) {
+            (None, Some(image)) => self.flaw_over(alloc, image, &served),
+            (flaw, _) => Ok(flaw),
+        }
+    }
+
+    /// What a device over the image does otherwise than it should, however the bytes are cut.
+    fn flaw_over(
+        &self,
+        alloc: Global,
+        image: &[u8],
+        served: &Served1,
+    ) -> anyhow::Result<Option<&'static str>> {
+        if !self.is_answered(alloc, image, served, Cutting::Whole)? {
+            return Ok(Some("the device over an image answers otherwise"));
+        }
+        if !self.is_answered(alloc, image, served, Cutting::Bytes)? {
+            return Ok(Some("the device over an image answers otherwise byte by byte"));
+        }
+        if !self.is_answered(alloc, image, served, Cutting::Drawn(image.len() as u32))? {
+            return Ok(Some("the device over an image answers otherwise in pieces"));
+        }
+        Ok(None)
+    }
+
+    /// What a device over the image does otherwise than it should, where a call of its disk fails: the one of this
+    /// number behind those that opening takes.
+    fn flaw_failing(
+        &self,
+        alloc: Global,
+        image: &[u8],
+        call: u64,
+    ) -> anyhow::Result<Option<&'static str>> {
+        let call = opening_calls(alloc, image)?.saturating_add(call);
+        let disk = disk_of(alloc, image, call)?;
+        let Some(outcome) = answers_of(alloc, disk, self.sent.as_slice(), Cutting::Whole)? else {
+            return Ok(Some("there is no device over an image"));
+        };
+        if outcome.out.as_slice() != self.answered.as_slice() {
+            return Ok(Some("the device answers otherwise"));
+        }
+        if outcome.closed != self.closes {
+            return Ok(Some("the connection ends otherwise"));
+        }
+        if mode_in(alloc, &outcome.disk)? != self.opens {
+            return Ok(Some("the image opens otherwise"));
+        }
+        Ok(None)
+    }
+
+    /// Whether a device over the image answers the bytes, cut in this way, as the device that is defined, and
+    /// leaves the same.
+    fn is_answered(
+        &self,
+        alloc: Global,
+        image: &[u8],
+        served: &Served1,
+        cutting: Cutting,
+    ) -> anyhow::Result<bool> {
+        let disk = disk_of(alloc, image, 0)?;
+        match answers_of(alloc, disk, self.sent.as_slice(), cutting)? {
+            None => Ok(false),
+            Some(answered) => Ok(
+                answered.out.as_slice() == served.out.as_slice()
+                    && answered.closed == served.closed
+                    && stands_for(alloc, answered.disk, &served.after)?,
+            ),
+        }
     }
 
     fn flaw_of(&self, served: &Served1) -> Option<&'static str> {

@@ -1,4 +1,5 @@
 use crate::device_lines::{no_device, set_device};
+use crate::image::image_of;
 use crate::session::Session;
 use dev_model::device::Dev;
 use std::alloc::Global;
@@ -14,6 +15,7 @@ pub struct Table<'a> {
     file: &'a str,
     lines: u64,
     device: Dev,
+    image: Option<Vec<u8>>,
     session: Option<Session>,
     sessions: u64,
     held: u64,
@@ -35,6 +37,7 @@ impl<'a> Table<'a> {
             file,
             lines: 0,
             device: no_device(alloc),
+            image: None,
             session: None,
             sessions: 0,
             held: 0,
@@ -72,8 +75,15 @@ impl<'a> Table<'a> {
     ) -> anyhow::Result<bool> {
         match &mut self.session {
             Some(session) => session.take(rt, word, text),
+            None if word == "image" && text.is_empty() => self.take_image(rt.alloc()),
             None => set_device(rt.alloc(), &mut self.device, word, text),
         }
+    }
+
+    /// Makes an image that stands for the device. False where there is none.
+    fn take_image(&mut self, alloc: Global) -> anyhow::Result<bool> {
+        self.image = image_of(alloc, &self.device)?;
+        Ok(self.image.is_some())
     }
 
     /// Holds the session that was read last, where there is one.
@@ -82,7 +92,8 @@ impl<'a> Table<'a> {
             return Ok(());
         };
         self.sessions = self.sessions.saturating_add(1);
-        match session.flaw(rt.alloc(), &self.device)? {
+        let image = self.image.as_ref().map(|image| image.as_slice());
+        match session.flaw(rt.alloc(), &self.device, image)? {
             Some(flaw) => println!(rt; "{}, {}: {flaw}", self.file, session.title)?,
             None => self.held = self.held.saturating_add(1),
         }

@@ -1,0 +1,5 @@
+use Rattle.std.proofs.Common.{IsFalse}
+use Rattle.device_answers.proofs.image.write_parts.Given as goal
+
+abbrev pub invariant-loop-part : goal.invariant-loop-part
+invariant-loop-part l = IsFalse l.store.broken
