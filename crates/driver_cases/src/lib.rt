@@ -2,6 +2,8 @@
 #![tactic(auto)]
 
 #[cfg(test)]
+mod flashes;
+#[cfg(test)]
 mod link_outs;
 #[cfg(test)]
 mod questions;

@@ -31,7 +31,7 @@ fn answering(alloc: Global, replies: &[&str]) -> Result<ScriptPort, Fail>
     Ok(port)
 }
 
-fn file(alloc: Global, name: &str, bytes: &[u8]) -> Result<DirFile, Fail> {
+pub(crate) fn file(alloc: Global, name: &str, bytes: &[u8]) -> Result<DirFile, Fail> {
     Ok(DirFile {
         name: name.to_string(alloc)?,
         bytes: bytes.to_vec(alloc)?,

@@ -1,6 +1,6 @@
 -- Partitions that are asked for, name by name and task by task.
-use Rattle.std.proofs.Common.{◌≡◌, ℕ, suc, ◌+◌, ◌*◌, ◌≤◌, ◌<◌, Bool, true, false, if◌then◌else◌, Option, Some, None, List, [], ◌∷◌, ◌++◌, length, drop, map, append-nil, append_assoc, refl, sym, ap, ◌∙◌, subst, arith}
-use Rattle.std.specs.Prelude.{is_some, bytes_eq, flat_map, option_to_list}
+use Rattle.std.proofs.Common.{◌≡◌, ℕ, suc, ◌*◌, ◌≤◌, Bool, true, false, if◌then◌else◌, Option, Some, None, List, [], ◌∷◌, ◌++◌, length, drop, append-nil, append_assoc, refl, sym, ap, ◌∙◌, subst, arith}
+use Rattle.std.specs.Prelude.{is_some, bytes_eq, option_to_list}
 use Rattle.std.specs.Option.{option_or}
 use Rattle.std.specs.List.{AllByRecursion}
 use Rattle.std.proofs.lemmas.List.{map-append}
@@ -8,7 +8,6 @@ use Rattle.std.proofs.lemmas.Slice.Eq.{bytes_eq-Decides}
 use Rattle.fb_frame.specs.declared.slot.Slot.{Slot}
 use Rattle.dev_model.specs.declared.device.Dev.{Dev}
 use Rattle.dev_model.specs.Repeats.{is_among}
-use Rattle.product_info.specs.declared.task.Action.{Action}
 use Rattle.product_info.specs.declared.task.Task.{Task}
 use Rattle.flash_plan.specs.declared.answers.Part.{Part}
 use Rattle.flash_plan.specs.Facts.{kind_of, kind_in}
@@ -16,8 +15,8 @@ use Rattle.flash_plan.specs.Targets.{found, probed, probed_by}
 use Rattle.fb_link.specs.Seen.{Seen}
 use Rattle.host_driver.specs.declared.drive.DriveError.{DriveError}
 use Rattle.host_driver.specs.AnswerText.{kind_question}
-use Rattle.host_driver.specs.Finding.{kind_questions, AreRight, Tell, KnowMore, Finds, is_found, IsSought, task_probes, tasks_probes}
-use Rattle.host_driver.specs.Questioning.{OfDevice, IsLearned, IsUnlearned, IsFront}
+use Rattle.host_driver.specs.Finding.{kind_questions, AreRight, Tell, Finds, is_found, IsSought, task_probes, tasks_probes}
+use Rattle.host_driver.specs.Questioning.{IsLearned, IsUnlearned, IsFront}
 use Rattle.host_driver.proofs.QuestionLemmas.{device-any, learned-still, learned-next, learned-as, unlearned-next, unlearned-as}
 
 -- What parts tell, with one more at the end.

@@ -1,10 +1,10 @@
 -- A port with a log counts the faults of its port and those of its own.
-use Rattle.std.proofs.Common.{◌≡◌, ℕ, ◌+◌, ◌^◌, ◌≤◌, List, [], ◌++◌, take, length, Option, Some, None, refl, sym, ap, ◌∙◌, subst, arith, length-take-le}
+use Rattle.std.proofs.Common.{◌≡◌, ℕ, ◌+◌, ◌≤◌, List, ◌++◌, take, length, Option, Some, None, sym, ap, ◌∙◌, subst, arith, length-take-le}
 use Rattle.fb_frame.specs.Causes.{Rose}
 use Rattle.dev_model.specs.declared.device.Dev.{Dev}
-use Rattle.wire_told.specs.Peers.{Peer, Apart, Joined, OfLink, OnLink, OffLink}
+use Rattle.wire_told.specs.Peers.{Peer, Apart, Joined}
 use Rattle.wire_model.specs.Wire.{Wire}
-use Rattle.wire_told.specs.Turns.{CommandTest, IsTurn}
+use Rattle.wire_told.specs.Turns.{CommandTest}
 use Rattle.wire_told.specs.Told.{GoesBy, Sent, IsLeft, LeftBy, HungUp, InTurn}
 use Rattle.wire_told.specs.Ports.{PortTold, Sends}
 use Rattle.host_driver.specs.Logs.{Logged}

@@ -49,7 +49,7 @@ pub files-both : (o : Option Files) (P Q R : Files → Type 0) → ((files : Fil
 files-both None P Q R f p q = tt
 files-both (Some files) P Q R f p q = f files p q
 
-files-all : (o : Option Files) (P : Files → Type 0) → ((files : Files) → P files) → OfFiles o P
+pub files-all : (o : Option Files) (P : Files → Type 0) → ((files : Files) → P files) → OfFiles o P
 files-all None P f = tt
 files-all (Some files) P f = f files
 
@@ -202,7 +202,7 @@ sends-renews files s (Boot what) x y r e h = by (leaves what) r
     by true q = absurd cc
     by false q = ap (λ t. t ++ y) e ∙ ap (λ t. command_wire (Reboot what) ++ t) h
 
-log-then : (P Q R : List ℕ → Type 0) → ((x y : List ℕ) → P x → Q y → R (x ++ y)) → (a b c : Option (List ℕ)) → LogGrew a b P → LogGrew b c Q → LogGrew a c R
+pub log-then : (P Q R : List ℕ → Type 0) → ((x y : List ℕ) → P x → Q y → R (x ++ y)) → (a b c : Option (List ℕ)) → LogGrew a b P → LogGrew b c Q → LogGrew a c R
 log-then P Q R f None None None l m = tt
 log-then P Q R f None None (Some c) l m = absurd m
 log-then P Q R f None (Some b) c l m = absurd l

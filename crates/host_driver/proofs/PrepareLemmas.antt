@@ -1,7 +1,7 @@
 -- The questions and the plan of an attempt, joined.
 use Rattle.std.proofs.Common.{◌≡◌, ℕ, ◌+◌, ◌*◌, ◌≤◌, Bool, true, false, not, ◌||◌, ◌&&◌, if◌then◌else◌, Option, Some, None, List, [], ◌∷◌, ◌++◌, length, append-nil, append_assoc, refl, sym, ap, ◌∙◌, subst, arith}
-use Rattle.std.specs.Prelude.{codes, is_some, find, Result, Ok, Err, IsTrue, flat_map}
-use Rattle.std.specs.List.{list_any, list_all, AllByRecursion}
+use Rattle.std.specs.Prelude.{codes, is_some, Ok, Err, IsTrue}
+use Rattle.std.specs.List.{list_any, AllByRecursion}
 use Rattle.fb_frame.specs.Sinks.{Grew}
 use Rattle.fb_frame.specs.declared.slot.Slot.{Slot}
 use Rattle.dev_model.specs.declared.device.Dev.{Dev}
@@ -10,19 +10,18 @@ use Rattle.dev_model.specs.Variables.{asked}
 use Rattle.product_info.specs.declared.requirement.Requirement.{Requirement}
 use Rattle.product_info.specs.declared.task.Task.{Task}
 use Rattle.wire_told.specs.Answered.{Sound}
-use Rattle.wire_told.specs.Peers.{Peer}
 use Rattle.wire_told.specs.Ports.{PortTold, Drops}
 use Rattle.wire_told.proofs.PortLemmas.{Kept-trans}
 use Rattle.flash_plan.specs.declared.answers.Answers.{Answers}
 use Rattle.flash_plan.specs.declared.answers.Part.{Part}
 use Rattle.flash_plan.specs.declared.plan.Order.{Order as PlanOrder}
 use Rattle.flash_plan.specs.declared.plan.PlanKind.{PlanKind}
-use Rattle.flash_plan.specs.Facts.{facts_of, facts_in, current_of}
+use Rattle.flash_plan.specs.Facts.{facts_of, facts_in}
 use Rattle.flash_plan.specs.Files.{Files}
 use Rattle.flash_plan.specs.Orders.{orders}
 use Rattle.flash_plan.specs.Plans.{work_of, steps_by}
 use Rattle.flash_plan.specs.Products.{is_update, IsWhole}
-use Rattle.flash_plan.specs.Questions.{questions, probes, requirement_questions, AreAnswers}
+use Rattle.flash_plan.specs.Questions.{questions, probes, AreAnswers}
 use Rattle.flash_plan.specs.Requiring.{variable_of, meets_line, holds_all, first_unmet}
 use Rattle.flash_plan.specs.Targets.{slot_of}
 use Rattle.flash_plan.proofs.PlanLemmas.{plans_told}
@@ -35,12 +34,12 @@ use Rattle.host_driver.specs.Asking.{ShowsBy}
 use Rattle.host_driver.specs.Deciding.{check_questions, first_judged, unmet_of, IsChecked, IsListed}
 use Rattle.host_driver.specs.Driven.{IsUnmet, IsUnplanned}
 use Rattle.host_driver.specs.Finding.{Tell, kind_questions, tasks_probes}
-use Rattle.host_driver.specs.Jobs.{Order, OfTold, job}
+use Rattle.host_driver.specs.Jobs.{Order, job}
 use Rattle.host_driver.specs.Preparing.{asks_of, MakesPlan, decide_questions, IsDecided, part_questions, IsUnmade, IsPrepared, WhyUnprepared, Unplans, ShowsAsks, IsUnprepared}
 use Rattle.host_driver.specs.Printing.{joined}
 use Rattle.host_driver.specs.Questioning.{OfDevice, shown_to, trait_questions, AreTraits, IsLearned, WhyUnlearned, IsUnlearned, IsFront}
 use Rattle.host_driver.proofs.AlongLemmas.{told-more}
-use Rattle.host_driver.proofs.QuestionLemmas.{device-of, device-any, device-more, learned-still, learned-next, learned-as, unlearned-next, unlearned-as, learned-hung, memory-unlearned}
+use Rattle.host_driver.proofs.QuestionLemmas.{device-any, learned-still, learned-next, unlearned-next, unlearned-as, learned-hung, memory-unlearned}
 
 -- All questions, in three parts.
 parted-by : (b u : Bool) (R P : List (List ℕ)) →

@@ -1,5 +1,5 @@
 -- Questions to a device, one after another: what is learned, and where an attempt breaks off in them.
-use Rattle.std.proofs.Common.{◌≡◌, inr, ℕ, zero, suc, ◌+◌, ◌<◌, ◌≤◌, Bool, true, false, Option, Some, None, List, [], ◌∷◌, ◌++◌, length, get_or, take, drop, refl, sym, ap, ◌∙◌, subst, arith, length-append, append_assoc, append-nil}
+use Rattle.std.proofs.Common.{◌≡◌, inr, ℕ, zero, suc, ◌+◌, ◌<◌, ◌≤◌, Bool, true, false, Option, Some, None, List, [], ◌∷◌, ◌++◌, length, get_or, take, drop, refl, sym, ap, ◌∙◌, subst, arith, append_assoc, append-nil}
 use Rattle.std.specs.Prelude.{map, flat_map, nat_le, slice_get, codes, Ok, Err}
 use Rattle.std.specs.Result.{result_ok}
 use Rattle.std.proofs.lemmas.Bool.Decides.{nat_tests}
@@ -7,7 +7,6 @@ use Rattle.std.proofs.lemmas.Grind.{flat_map-append}
 use Rattle.std.proofs.lemmas.List.{map-append, take-append-le, take_all}
 use Rattle.std.proofs.lemmas.Option.{slice_get_within}
 use Rattle.std.proofs.Math.Seq.{take-append_seam, take-append-add, drop-cons}
-use Rattle.fb_frame.specs.Causes.{Rose}
 use Rattle.fb_frame.specs.Framing.{frame}
 use Rattle.fb_frame.specs.Sinks.{Grew}
 use Rattle.fb_frame.proofs.SinkLemmas.{Grew-append, Grew-nothing}
@@ -18,7 +17,7 @@ use Rattle.dev_model.specs.declared.device.Dev.{Dev}
 use Rattle.dev_model.specs.Validity.{IsValid}
 use Rattle.dev_model.specs.Variables.{asked}
 use Rattle.wire_told.specs.Answered.{Sound}
-use Rattle.wire_told.specs.Peers.{Peer, Apart, Joined, device_of}
+use Rattle.wire_told.specs.Peers.{Peer, device_of}
 use Rattle.wire_told.specs.Ports.{PortTold, Drops}
 use Rattle.wire_told.specs.Told.{HungUp}
 use Rattle.wire_told.proofs.PortLemmas.{Kept-same, Kept-trans}
@@ -27,7 +26,6 @@ use Rattle.fb_link.specs.Seen.{Seen, seen}
 use Rattle.host_driver.specs.declared.drive.DriveError.{DriveError}
 use Rattle.host_driver.specs.declared.drive.DriveError.TheVariants as stop
 use Rattle.host_driver.specs.Asking.{Told, told_reply, Tells, IsAsked, IsUnasked, IsUnrefused, ShowsSome, IsCutIn, ShowsBy}
-use Rattle.host_driver.specs.Driving.{Grows}
 use Rattle.host_driver.specs.HeardLast.{HeardThen, HeardAt, LogEnds, is_answer}
 use Rattle.host_driver.specs.Jobs.{OfTold}
 use Rattle.host_driver.specs.Printing.{infos_to, joined}

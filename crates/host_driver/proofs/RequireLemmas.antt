@@ -1,18 +1,18 @@
 -- Requirements, line by line.
-use Rattle.std.proofs.Common.{◌≡◌, ℕ, zero, suc, ◌+◌, ◌*◌, ◌≤◌, ◌<◌, Bool, true, false, not, ◌||◌, if◌then◌else◌, Option, Some, None, List, [], ◌∷◌, ◌++◌, length, drop, map, filter, append-nil, append_assoc, refl, sym, ap, ◌∙◌, subst, arith}
-use Rattle.std.specs.Prelude.{codes, is_some, find, slice_get, IfSome}
-use Rattle.std.specs.List.{list_any, list_all, AllByRecursion}
+use Rattle.std.proofs.Common.{◌≡◌, ℕ, suc, ◌+◌, ◌*◌, ◌≤◌, ◌<◌, Bool, true, false, not, ◌||◌, if◌then◌else◌, Option, Some, None, List, [], ◌∷◌, ◌++◌, length, drop, map, filter, append-nil, append_assoc, refl, sym, ap, ◌∙◌, subst, arith}
+use Rattle.std.specs.Prelude.{codes, is_some, slice_get, IfSome}
+use Rattle.std.specs.List.{list_any}
 use Rattle.dev_model.specs.declared.device.Dev.{Dev}
 use Rattle.dev_model.specs.Variables.{asked, value}
 use Rattle.product_info.specs.declared.requirement.Requirement.{Requirement}
 use Rattle.product_info.specs.Meeting.{is_for, holds, meets}
 use Rattle.flash_plan.specs.Questions.{looked_at, requirement_questions}
-use Rattle.flash_plan.specs.Requiring.{variable_of, applies, meets_line, holds_all, first_unmet}
+use Rattle.flash_plan.specs.Requiring.{variable_of, applies, meets_line, first_unmet}
 use Rattle.fb_link.specs.Seen.{Seen}
 use Rattle.host_driver.specs.declared.drive.DriveError.{DriveError}
 use Rattle.host_driver.specs.declared.requirements.Unmet.{Unmet}
 use Rattle.host_driver.specs.Deciding.{line_question, line_questions, product_question, check_questions, unmet_of, judged, IsProduct, AreFor, IsJudged, first_judged, AreJudged, IsChecked, IsOfLine, IsListed}
-use Rattle.host_driver.specs.Questioning.{OfDevice, IsLearned, IsUnlearned, IsFront}
+use Rattle.host_driver.specs.Questioning.{OfDevice, IsLearned, IsUnlearned}
 use Rattle.host_driver.proofs.AlongLemmas.{told-more}
 use Rattle.host_driver.proofs.QuestionLemmas.{device-of, device-any, learned-still, learned-next, learned-as, unlearned-next, unlearned-as}
 

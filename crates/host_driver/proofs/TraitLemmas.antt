@@ -1,5 +1,5 @@
 -- What every plan rests on of a device, question by question.
-use Rattle.std.proofs.Common.{◌≡◌, ℕ, Bool, true, false, Option, Some, None, List, [], ◌∷◌, ◌++◌, append-nil, refl, sym, ap, ◌∙◌, subst, arith}
+use Rattle.std.proofs.Common.{◌≡◌, ℕ, Bool, true, false, Option, Some, None, List, [], ◌∷◌, append-nil, refl, sym, ap, ◌∙◌, arith}
 use Rattle.std.specs.Prelude.{codes, if◌then◌else◌, IsTrue}
 use Rattle.fb_frame.specs.declared.slot.Slot.{Slot}
 use Rattle.dev_model.specs.declared.device.Dev.{Dev}
@@ -8,7 +8,7 @@ use Rattle.flash_plan.specs.Facts.{current_of}
 use Rattle.fb_link.specs.Seen.{Seen}
 use Rattle.host_driver.specs.declared.drive.DriveError.{DriveError}
 use Rattle.host_driver.specs.declared.questions.Traits.{Traits}
-use Rattle.host_driver.specs.Questioning.{OfDevice, IsLearned, IsUnlearned, IsFront, slot_questions, super_questions, trait_questions, AreTraits}
+use Rattle.host_driver.specs.Questioning.{OfDevice, IsLearned, IsUnlearned, slot_questions, super_questions, trait_questions, AreTraits}
 use Rattle.host_driver.proofs.QuestionLemmas.{device-of, device-any, device-more, learned-still, learned-next, learned-as, unlearned-next, unlearned-as}
 
 -- the active slot

@@ -1,6 +1,6 @@
 -- Whether a device meets the requirements of a product: what is asked for each line, and what comes of it.
-use Rattle.std.specs.Prelude.{◌≡◌, ℕ, Bool, true, false, ◌||◌, List, [], ◌∷◌, ◌++◌, map, filter, find, not}
-use Rattle.std.specs.Prelude.{slice_get, Option, Some, None, is_some, if◌then◌else◌, codes, IsTrue}
+use Rattle.std.specs.Prelude.{◌≡◌, ℕ, Bool, List, [], ◌∷◌, map, filter}
+use Rattle.std.specs.Prelude.{slice_get, Option, Some, None, is_some, if◌then◌else◌, codes}
 use Rattle.std.specs.List.{list_any, AllByRecursion}
 use Rattle.dev_model.specs.declared.device.Dev.{Dev}
 use Rattle.dev_model.specs.Variables.{asked, value}

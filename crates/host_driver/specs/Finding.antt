@@ -9,7 +9,7 @@ use Rattle.product_info.specs.declared.task.Task.{Task}
 use Rattle.flash_plan.specs.declared.answers.Part.{Part}
 use Rattle.flash_plan.specs.Facts.{kind_of, kind_in, facts_of}
 use Rattle.flash_plan.specs.Questions.{action_probes}
-use Rattle.flash_plan.specs.Targets.{found, probed}
+use Rattle.flash_plan.specs.Targets.{found}
 use Rattle.host_driver.specs.AnswerText.{kind_question}
 
 -- the questions for the kinds of partitions

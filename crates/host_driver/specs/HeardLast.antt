@@ -1,8 +1,8 @@
 -- What the bytes heard in the last connection end with, and of which command they came, where a port tells
 -- them.
-use Rattle.std.specs.Prelude.{◌≡◌, ◌≢◌, ◌⊎◌, ℕ, ◌+◌, ◌&&◌, ◌||◌, Bool, true, false, List, [], ◌∷◌, ◌++◌}
-use Rattle.std.specs.Prelude.{length, take, map}
-use Rattle.std.specs.Prelude.{drop, Option, Some, None, IfSome, nat_le, if◌then◌else◌, bytes_eq}
+use Rattle.std.specs.Prelude.{◌≡◌, ◌≢◌, ◌⊎◌, ℕ, ◌||◌, Bool, true, false, List, [], ◌∷◌, ◌++◌}
+use Rattle.std.specs.Prelude.{length, take}
+use Rattle.std.specs.Prelude.{Option, Some, IfSome, nat_le, if◌then◌else◌, bytes_eq}
 use Rattle.std.specs.Prelude.{codes}
 use Rattle.std.specs.List.{list_all, list_any}
 use Rattle.std.specs.Option.{option_map_or}

@@ -24,3 +24,4 @@ pub mod Finding
 pub mod Preparing
 pub mod Taking
 pub mod Running
+pub mod Trying

@@ -10,9 +10,11 @@ ghost use Rattle.host_driver.specs.Running.{ImagesKept, PlanOwns, PlanSuits};
 
 pub mod ask;
 mod asking_parts;
+mod attempt;
 pub mod before;
 pub mod begin;
 pub mod drive;
+pub mod flash;
 pub mod lines;
 pub mod link_out;
 pub mod load_piece;

@@ -1,4 +1,4 @@
-use Rattle.std.proofs.Common.{◌≡◌, ◌∙◌, ◌*◌, length, ap, arith}
+use Rattle.std.proofs.Common.{◌∙◌, length, ap, arith}
 use Rattle.flash_plan.specs.Plans.{listed_in}
 use Rattle.host_driver.specs.Jobs.{order}
 use Rattle.host_driver.proofs.PutLemmas.{Serving-less}

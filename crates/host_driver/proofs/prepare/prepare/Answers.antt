@@ -1,4 +1,4 @@
-use Rattle.std.proofs.Common.{◌≡◌, ◌∙◌, ◌+◌, ◌*◌, ◌≤◌, length, sym, subst, arith}
+use Rattle.std.proofs.Common.{sym, subst, arith}
 use Rattle.std.specs.List.{list_any}
 use Rattle.fb_link.specs.Seen.{seen}
 use Rattle.flash_plan.specs.Products.{is_update}
