@@ -1,0 +1,12 @@
+pub mod ReportLemmas
+pub mod ReadLemmas
+pub mod HashLemmas
+pub mod LineLemmas
+pub mod PartLemmas
+pub mod HeadLemmas
+pub mod TextLemmas
+pub mod OpenedLemmas
+pub mod WipeLemmas
+pub mod LockLemmas
+pub mod UnlockLemmas
+pub mod MakeLemmas

@@ -1,0 +1,14 @@
+//! What fbdevice does with a file: an image that is made, shown or unlocked.
+#![tactic(auto)]
+
+mod device_text;
+mod digests;
+mod ended;
+mod job;
+mod lines;
+pub mod make;
+mod parts;
+mod report;
+pub mod show;
+pub mod unlock;
+mod unlocking;
