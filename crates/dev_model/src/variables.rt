@@ -80,7 +80,8 @@ pub(crate) fn push_row_of(
 fn push_labels(alloc: Global, rows: &mut Items<Row>, dev: &Dev) -> Result<(), Memory>
     ensures { OnOk result (rows.new ≡ rows.old ++ (codes "version", codes "0.4")
         ∷ (codes "product", dev.now.product) ∷ (codes "serialno", dev.now.serial)
-        ∷ (codes "secure", yes_or_no dev.now.locked) ∷ (codes "unlocked", yes_or_no (not dev.now.locked)) ∷ []) }
+        ∷ (codes "secure", yes_or_no dev.now.locked)
+        ∷ (codes "unlocked", yes_or_no (not dev.now.locked)) ∷ []) }
 {
     push_row(alloc, rows, b"version".as_slice(), b"0.4".as_slice())?;
     push_row(alloc, rows, b"product".as_slice(), dev.product.as_slice())?;

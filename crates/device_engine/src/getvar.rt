@@ -33,7 +33,8 @@ fn tell<K: Disk>(store: &Store<K>, userspace: bool, name: &[u8], replies: &mut R
 
 /// The variable at a place of the order of `all`.
 fn row_at<K: Disk>(store: &Store<K>, userspace: bool, place: u32) -> Option<Line>
-    ensures { result ≡ option_map info_text (slice_get (all_rows (started_in userspace store.now.device)) place) }
+    ensures { result ≡
+        option_map info_text (slice_get (all_rows (started_in userspace store.now.device)) place) }
 {
     let mut line = line_of(b"");
     if store.variable(place, userspace, &mut line) {

@@ -38,11 +38,13 @@ fn ask_name<P: Port, S: Sink>(
     requires serving { Serving 4104 (P.told ready).peer }
     ensures same { IfOk result (λ r. P.lent r.0 ≡ P.lent ready) }
     ensures same_lost { IfErr result (λ e. P.lent e.0 ≡ P.lent ready) }
-    ensures learned { IfOk result (λ r. IsLearned 4104 (λ dev. kind_questions (option_to_list (Some name.now)))
+    ensures learned { IfOk result (λ r. IsLearned 4104
+        (λ dev. kind_questions (option_to_list (Some name.now)))
         (λ dev. IsSought listed.now (Some name.now) r.1 dev
         (λ names dev. Finds names parts.old parts.new dev))
         (seen (P.told ready) (S.text shown.old)) (seen (P.told r.0) (S.text shown.new))) }
-    ensures unlearned { IfErr result (λ e. IsUnlearned (λ dev. kind_questions (option_to_list (Some name.now)))
+    ensures unlearned { IfErr result (λ e. IsUnlearned
+        (λ dev. kind_questions (option_to_list (Some name.now)))
         (seen (P.told ready) (S.text shown.old)) (seen (P.told e.0) (S.text shown.new)) e.1) }
     ensures shown_later { S.faults shown.old ≤ S.faults shown.new }
     ensures output { IfErr result (λ e.
@@ -150,7 +152,8 @@ fn ask_aim<P: Port, S: Sink>(
     ensures same_lost { IfErr result (λ e. P.lent e.0 ≡ P.lent ready) }
     ensures learned { IfOk result (λ r. IsLearned 8208 (λ dev.
         kind_questions (probed (kind_of dev) listed.now (candidates slot other name.now)))
-        (λ dev. Finds (probed (kind_of dev) listed.now (candidates slot other name.now)) parts.old parts.new dev)
+        (λ dev. Finds (probed (kind_of dev) listed.now (candidates slot other name.now))
+        parts.old parts.new dev)
         (seen (P.told ready) (S.text shown.old)) (seen (P.told r) (S.text shown.new))) }
     ensures unlearned { IfErr result (λ e. IsUnlearned (λ dev.
         kind_questions (probed (kind_of dev) listed.now (candidates slot other name.now)))

@@ -47,7 +47,8 @@ fn plan_for<P: Port, S: Sink>(
     requires serving { Serving 4194304 (P.told ready).peer }
     ensures kept { (p : _) → kept ≡ Some p → IfOk result (λ r. (r.0 ≡ ready) × (r.1 ≡ p)) }
     ensures quiet { IsTrue (is_some kept) → S.text out.new ≡ S.text out.old }
-    ensures prepared { kept ≡ None → IfOk result (λ r. IsPrepared (order product.now options.now) r.1.plan r.1.max
+    ensures prepared { kept ≡ None →
+        IfOk result (λ r. IsPrepared (order product.now options.now) r.1.plan r.1.max
         (seen (P.told ready) (S.text out.old)) (seen (P.told r.0) (S.text out.new))) }
     ensures unmade { OnErr result (kept ≡ None) }
     ensures unprepared { IfErr result (λ e. IsUnprepared (order product.now options.now)
