@@ -1,6 +1,6 @@
 -- What a store keeps of a logical partition that was found by its name.
-use Rattle.std.proofs.Common.{◌≡◌, ◌∙◌, refl, ap, sym, subst, ℕ, true, cond, List, [], map, find, length, Option, Some, None, option_map, unwrap_or, Result, Ok, Err, arith}
-use Rattle.std.specs.Prelude.{slice_get, position, nat_lt}
+use Rattle.std.proofs.Common.{◌≡◌, ◌∙◌, refl, ap, sym, subst, ℕ, zero, suc, ◌<◌, true, cond, List, [], ◌∷◌, map, find, length, Option, Some, None, option_map, unwrap_or, Result, Ok, Err, arith}
+use Rattle.std.specs.Prelude.{slice_get, position, nat_lt, IfSome}
 use Rattle.std.specs.Option.{option_and_then}
 use Rattle.std.specs.List.{list_all, position_or_len}
 use Rattle.std.specs.Result.{result_ok}
@@ -19,10 +19,12 @@ use Rattle.dev_store.specs.Layouts.{LayoutValue}
 use Rattle.dev_store.specs.Supers.{logical_at}
 use Rattle.dev_store.specs.Stand.{super_bytes}
 use Rattle.dev_store.specs.Held.{IsKept, IsTabled, device_held, file_or_zeros, super_by}
-use Rattle.dev_store.specs.Reading.{table_within, parts_within}
+use Rattle.dev_store.specs.SuperReads.{IsMap}
+use Rattle.dev_store.specs.Reading.{IsWithinSound, table_within, parts_within}
 use Rattle.dev_store.specs.StoreCalls.{group_of}
 use Rattle.dev_store.proofs.OpenOwns.{at-name, at-logical, place-alike}
-use Rattle.dev_store.proofs.NamedLemmas.{find-told}
+use Rattle.dev_model.proofs.Valid.{both}
+use Rattle.dev_store.proofs.NamedLemmas.{find-told, below}
 
 -- the place of a name in the table is its place in the device
 place-told : (s : SuperPart) (c : Content) (super name : List ℕ) (ps : List Partition) → position (at-name name) ps ≡ position (at-logical name) (map (logical_at s c super) ps)
@@ -56,6 +58,32 @@ place-within layout state within w image name e k =
     subst (λ v. IsKept layout state (table_within v) image → option_and_then (slice_get w.parts.items) (position (at-name name) w.table.partitions.items)
     ≡ slice_get (parts_within v) (unwrap_or (position (at-logical name) (device_held layout state (table_within v) image).logical) (length (parts_within v)))) (sym e)
     (λ h. place-kept layout state (content w.table) image w.parts.items name h) k
+
+-- each partition has a part that the map has
+part-below : (parts : List ℕ) (bound i part : ℕ) → list_all (λ p. nat_lt p bound) parts ≡ true → slice_get parts i ≡ Some part → part < bound
+part-below [] bound i part all h = let past = slice_get_past {X = ℕ} [] i (omega arith) in absurd cc
+part-below (p ∷ parts) bound zero part all h =
+    let same : p ≡ part = cc in
+    subst (λ n. n < bound) same (below p bound (both (nat_lt p bound) (list_all (λ p. nat_lt p bound) parts) all).0)
+part-below (p ∷ parts) bound (suc i) part all h = part-below parts bound i part (both (nat_lt p bound) (list_all (λ p. nat_lt p bound) parts) all).1 h
+
+part-known : (s : SuperPart) (w : SuperRead) (o : Option ℕ) → IsMap s w → IfSome (option_and_then (slice_get w.parts.items) o) (λ part. part < length w.owners.parts)
+part-known s w None h = tt
+part-known s w (Some i) h = by (slice_get w.parts.items i) refl
+  where
+    by : (found : Option ℕ) → slice_get w.parts.items i ≡ found → IfSome found (λ part. part < length w.owners.parts)
+    by None e = tt
+    by (Some part) e = subst (λ n. part < n) (sym h.many) (part-below w.parts.items 128 i part h.there e)
+
+pub part-inside : (layout : LayoutValue) (part : Option SuperPart) (within : Option SuperRead) (w : SuperRead) (o : Option ℕ) → within ≡ Some w → IsWithinSound layout part within →
+    IfSome (option_and_then (slice_get w.parts.items) o) (λ n. IfSome (option_map (λ w. w.owners) within) (λ owning. n < length owning.parts))
+part-inside layout part within w o e sound =
+    subst (λ v. IfSome (option_and_then (slice_get w.parts.items) o) (λ n. IfSome (option_map (λ w. w.owners) v) (λ owning. n < length owning.parts))) (sym e)
+    (by part (subst (IsWithinSound layout part) e sound))
+  where
+    by : (p : Option SuperPart) → IsWithinSound layout p (Some w) → IfSome (option_and_then (slice_get w.parts.items) o) (λ n. n < length w.owners.parts)
+    by None h = absurd h
+    by (Some s) h = part-known s w o h.mapped
 
 -- the group of each partition is there
 ok-of : (r : Result Content MetaError) (c : Content) → result_ok r ≡ Some c → r ≡ Ok c

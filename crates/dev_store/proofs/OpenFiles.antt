@@ -99,3 +99,18 @@ others-same old new path same later torn = record {
   later = later;
   torn = torn;
 }
+
+-- an opening that failed, where the path's file stands for no device
+stands-apart : (s : Option (List ℕ)) (bad : BadImage) → IfSome s (λ file. stand file ≡ Err bad → ⊥) → StandsIn s (Err bad) → ⊥
+stands-apart None bad h k = k
+stands-apart (Some file) bad h k = h k
+
+pub spared : (old mid new : DiskTold) (path : List ℕ) (bad : BadImage) → mid.files ≡ old.files → IsFileOpen mid path → OpenKept mid new → IfSome (open_bytes mid) (λ file. stand file ≡ Err bad → ⊥) →
+    IsBadImage old.files path bad → new.files ≡ old.files
+spared old mid new path bad same o k h b =
+    subst (λ files. new.files ≡ files) same (by mid.files o.opened h k.others (subst (λ files. IsBadImage files path bad) (sym same) b))
+  where
+    by : (files : Option Files) → IsOpen files mid.open_path path → IfSome (content files mid.open_path) (λ file. stand file ≡ Err bad → ⊥) → KeepsUnopened files new.files mid.open_path →
+        IsBadImage files path bad → new.files ≡ files
+    by None a x u c = subst (KeepsUnopened None new.files) a u
+    by (Some f) a x u c = absurd (stands-apart (f path) bad (subst (λ s. IfSome s (λ file. stand file ≡ Err bad → ⊥)) (content-at f mid.open_path path a) x) c)

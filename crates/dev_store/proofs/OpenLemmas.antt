@@ -328,6 +328,13 @@ owns-read layout None within file name sound h = refl
 owns-read layout (Some s) None file name sound h = absurd sound
 owns-read layout (Some s) (Some w) file name sound h = ap (λ o. owned_in s o name) h.read
 
+-- a file of which an image was read stands for a device
+pub read-stands : (r : ImageRead) (file : List ℕ) → IsReadSound r → IsImageRead r file →
+    stand file ≡ Ok (device_with r.layout r.found.state (physical_at 12288 r.layout.physical file) (super_by r.layout r.layout.super_part (table_within r.within) file))
+read-stands r file sound h =
+    stands-whole file r.layout (r.found.version, r.found.state) (super_by r.layout r.layout.super_part (table_within r.within) file) h.front (state-recorded r.layout.slots r.found file h.state)
+    (super-read r.layout r.layout.super_part r.within file sound.super h.super)
+
 -- The file stood for the device that is held, and so does the repaired one.
 pub record IsOpened (r : ImageRead) (file now : List ℕ) : Type 0 where
   pub stood : stand file ≡ Ok (device_held r.layout r.found.state (table_within r.within) (Some now))
@@ -341,10 +348,8 @@ opened r file now sound h m =
     let layout = r.layout in
     let table = table_within r.within in
     let part = layout.super_part in
-    let whole = stands-whole file layout (r.found.version, r.found.state) (super_by layout part table file) h.front (state-recorded layout.slots r.found file h.state)
-    (super-read layout part r.within file sound.super h.super) in
     let stood : stand file ≡ Ok (device_with layout r.found.state (physical_at 12288 layout.physical now) (super_by layout part table now)) =
-    whole
+    read-stands r file sound h
     ∙ (ap (λ ps. Ok (device_with layout r.found.state ps (super_by layout part table file))) (sym m.parts)
     ∙ ap (λ super. Ok (device_with layout r.found.state (physical_at 12288 layout.physical now) super)) (sym (super-by-same layout part table file now m.super))) in
     let both = repaired_stands file now (device_with layout r.found.state (physical_at 12288 layout.physical now) (super_by layout part table now)) stood m.repaired in

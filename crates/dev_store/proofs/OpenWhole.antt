@@ -1,9 +1,11 @@
 -- A store over an image that was read and repaired is whole.
-use Rattle.std.proofs.Common.{arith, ◌≡◌, ◌∙◌, refl, ap, sym, subst, ℕ, Bool, true, false, List, ◌++◌, take, length, Option, Some, None, Ok}
+use Rattle.std.proofs.Common.{arith, ◌≡◌, ◌∙◌, refl, ap, sym, subst, ℕ, Bool, true, false, List, ◌++◌, take, length, Option, Some, None, Result, Ok, Err}
 use Rattle.std.proofs.lemmas.List.{length-replicate}
 use Rattle.std.proofs.Math.Seq.{take-append_seam}
 use Rattle.std.specs.Prelude.{IsTrue, IfSome}
 use Rattle.fb_frame.specs.Bytes.{zeros}
+use Rattle.dev_model.specs.declared.bad_image.BadImage.{BadImage}
+use Rattle.dev_model.specs.declared.device.Dev.{Dev}
 use Rattle.dev_model.specs.Validity.{IsValid}
 use Rattle.dev_model.specs.Partitions.{is_fastboot}
 use Rattle.std.specs.Result.{result_ok}
@@ -27,7 +29,7 @@ use Rattle.dev_store.specs.Stand.{stand, Starts, Settled, owned, physical_at, de
 use Rattle.dev_store.specs.Held.{device_held, file_or_zeros, super_by, Holds, IsSettled, OwnsAsTold, IsWhole, IsKept, IsTabled}
 use Rattle.dev_store.specs.Reading.{IsImageRead, IsMended, IsReadSound, IsWithinSound, IsWithinRead, held_of, table_within, owned_within, IsStored}
 use Rattle.dev_store.proofs.ValidStands.{super_makes_valid, plain_makes_valid}
-use Rattle.dev_store.proofs.OpenLemmas.{opened, geometry-either, state-recorded}
+use Rattle.dev_store.proofs.OpenLemmas.{opened, read-stands, geometry-either, state-recorded}
 use Rattle.dev_store.proofs.OpenZeros.{held-zeroed}
 use Rattle.dev_store.proofs.OpenOwns.{units-within, maps}
 
@@ -116,6 +118,14 @@ pub stood-before : (r : ImageRead) (o p : Option (List ℕ)) → IsReadSound r �
 stood-before r None p sound h m = tt
 stood-before r (Some file) None sound h m = absurd m
 stood-before r (Some file) (Some now) sound h m = (opened r file now sound h m).stood
+
+-- a file that stands for no device isn't read as an image
+ok-apart : (dev : Dev) (bad : BadImage) → ◌≡◌ {A = Result Dev BadImage} (Ok dev) (Err bad) → ⊥
+ok-apart dev bad h = absurd cc
+
+pub read-good : (r : ImageRead) (o : Option (List ℕ)) (bad : BadImage) → IsReadSound r → IfSome o (IsImageRead r) → IfSome o (λ file. stand file ≡ Err bad → ⊥)
+read-good r None bad sound h = tt
+read-good r (Some file) bad sound h = λ e. ok-apart _ bad (sym (read-stands r file sound h) ∙ e)
 
 pub is-now : (r : ImageRead) (o p : Option (List ℕ)) → IsReadSound r → IfSome o (IsImageRead r) → Both (IsMended r) o p → IfSome p (λ now. length now ≡ image_size r.layout) → IfSome p (IsNow r)
 is-now r o None sound h m long = tt

@@ -96,6 +96,8 @@ pub fn open_image<K: Disk>(alloc: Global, disk: &mut K, path: &str) -> Result<Op
     ensures unwritten { (bad : BadImage) →
         IsErrOf result OpenError.Absent ⊎ IsErrOf result (OpenError.Bad bad) →
         (K.told disk.new).files ≡ (K.told disk.old).files }
+    ensures spared { (bad : BadImage) → IsBadImage (K.told disk.old).files path.now bad →
+        OnErr result ((K.told disk.new).files ≡ (K.told disk.old).files) }
     ensures left { OnErr result (IsHonest (K.told disk.new).torn →
         LeavesImage (K.told disk.old) (K.told disk.new) path.now) }
     ensures others { OnErr result (OthersKept (K.told disk.old) (K.told disk.new) path.now) }

@@ -1,4 +1,4 @@
-ghost use Rattle.std.specs.Prelude.{◌≡◌, ℕ, List, length, option_map, slice_get};
+ghost use Rattle.std.specs.Prelude.{◌≡◌, ℕ, ◌<◌, List, length, option_map, slice_get, IfSome, IsFalse};
 ghost use Rattle.super_meta.specs.Contents.{content};
 ghost use Rattle.super_meta.specs.Held.{limited};
 ghost use Rattle.dev_store.specs.Reading.{table_within};
@@ -17,7 +17,7 @@ use crate::store::Store;
 use crate::super_read::SuperRead;
 use crate::variables_all::show_variable;
 use crate::variables_base::name_at;
-use crate::variables_facts::facts_of;
+use crate::variables_facts::{facts_of, super_name};
 use crate::variables_row::Facts;
 use crate::variables_show::show_value;
 use dev_disk::disk::Disk;
@@ -63,6 +63,14 @@ impl<K: Disk> Store<K> {
             None => (0, 0),
             Some(within) => (within.table.minor, within.table.flags),
         }
+    }
+
+    /// The name of super; none without one.
+    #[tactic(auto, unfolding(crate::specs::Held::device_held))]
+    pub fn super_name(&self) -> Option<Name>
+        ensures name { result ≡ self.now.device.super_name }
+    {
+        super_name(&self.layout.super_part())
     }
 
     /// The map of units; none without super.
@@ -134,6 +142,8 @@ impl<K: Disk> Store<K> {
     /// The part of a logical partition in the map of units.
     pub fn place(&self, name: &Name) -> Option<u32>
         ensures part { result ≡ part_of self.now name.now }
+        ensures bound { IsFalse self.now.broken → IfSome result (λ part.
+            IfSome self.now.owning (λ owning. part < length owning.parts)) }
     {
         match &self.within {
             None => None,

@@ -55,6 +55,8 @@ impl<K: Disk> Store<K> {
         ensures unwritten { (bad : BadImage) → IfErr result (λ e. (e.1 ≡ OpenError.Absent)
             ⊎ (e.1 ≡ OpenError.Bad bad) →
             (K.told e.0).files ≡ (K.told disk).files) }
+        ensures spared { (bad : BadImage) → IsBadImage (K.told disk).files path.now bad →
+            IfErr result (λ e. (K.told e.0).files ≡ (K.told disk).files) }
         ensures left { IfErr result (λ e. IsHonest (K.told e.0).torn →
             LeavesImage (K.told disk) (K.told e.0) path.now) }
         ensures others { IfErr result (λ e. OthersKept (K.told disk) (K.told e.0) path.now) }

@@ -67,19 +67,6 @@ fn base_row<'a>(facts: &Facts, base: &'a [u8]) -> Option<Row<'a>>
     }
 }
 
-/// The same, unless a partition before this place has the base name.
-fn new_row<'a>(facts: &Facts, place: usize, base: &'a [u8]) -> Option<Row<'a>>
-    ensures { option_map row_of result ≡ (if list_any (λ x. bytes_eq base.now x)
-        (take place (map (base_name (told_device facts.now)) (names_of (told_device facts.now)))) then None
-        else has_slot_row (told_device facts.now) base.now) }
-{
-    if is_known(facts, place, base) {
-        None
-    } else {
-        base_row(facts, base)
-    }
-}
-
 /// The row of `has-slot` at a place of all of them.
 pub fn base_row_at<'a>(facts: &Facts<'a>, place: usize) -> Option<Row<'a>>
     ensures { option_map row_of result
@@ -93,9 +80,9 @@ pub fn base_row_at<'a>(facts: &Facts<'a>, place: usize) -> Option<Row<'a>>
             return None;
         };
         let base = base_name(facts, name.bytes());
-        if let Some(row) = new_row(facts, at, base) {
+        if !is_known(facts, at, base) {
             if left == 0 {
-                return Some(row);
+                return base_row(facts, base);
             }
             left -= 1;
         }

@@ -19,7 +19,8 @@ fn both_flags(state: &State) -> BothFlags
     }
 }
 
-fn super_name(part: &Option<SuperPart>) -> Option<Name>
+/// The name of super; none without one.
+pub fn super_name(part: &Option<SuperPart>) -> Option<Name>
     ensures { result ≡ option_map (λ s. s.name) part.now }
 {
     match part {

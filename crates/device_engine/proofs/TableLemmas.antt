@@ -1,27 +1,21 @@
 -- Commands that change the table.
 use Rattle.std.proofs.Common.{◌≡◌, ◌∙◌, refl, ap, sym, subst, ℕ, Bool, true, false, not, ◌||◌, List, [], ◌∷◌, ◌++◌, length, Option, Some, None, codes}
-use Rattle.std.specs.Prelude.{nat_le, nat_lt, option_and_then, bytes_eq, is_some, is_none, option_to_list, if◌then◌else◌, flat_map, map}
-use Rattle.std.specs.Map.{lookup}
-use Rattle.fb_frame.specs.Numbers.{size_text}
-use Rattle.fb_frame.specs.Slots.{letter}
+use Rattle.std.specs.Prelude.{nat_le, nat_lt, option_and_then}
 use Rattle.fb_message.specs.declared.reply.Reply.TheVariants.{Okay}
 use Rattle.fb_message.specs.CommandText.{UpdateSuper, Create, Delete, Resize}
 use Rattle.dev_model.specs.declared.step.Step.TheVariants as step
 use Rattle.dev_model.specs.Steps.{apply, created, deleted}
-use Rattle.dev_model.specs.Variables.{Row, value, plain_rows, slot_rows, partition_rows, with_slots_only, has_slot, slotted_name, super_row, yes_or_no}
 use Rattle.dev_model.specs.Sizes.{sizes_of, units_fit, groups_fit}
 use Rattle.dev_model.specs.Tables.{is_group, is_bad_table, merged, left_over, kept}
-use Rattle.fb_frame.specs.declared.slot.Slot.TheVariants.{A, B}
 use Rattle.wire_model.specs.Halts.{HaltsBy, IsHaltedAround}
 use Rattle.wire_model.specs.Says.{Loaded, says, answers, decides, updates}
-use Rattle.dev_store.specs.StoreCalls.{Shows, started_in}
 use Rattle.device_engine.proofs.SaysLemmas.{says-update}
 use Rattle.std.specs.Option.{option_or}
 use Rattle.std.specs.List.{list_any}
 use Rattle.fb_frame.specs.declared.tables.Tables.{Tables}
 use Rattle.dev_model.specs.declared.device.Dev.{Dev}
 use Rattle.dev_model.specs.Options.{first_passed}
-use Rattle.dev_model.specs.Partitions.{has_slots, is_userspace, is_logical, is_partition, is_super}
+use Rattle.dev_model.specs.Partitions.{is_userspace, is_logical, is_partition, is_super}
 use Rattle.dev_model.specs.Refusals.{create_refusal, delete_refusal, resize_refusal, update_refusal, created_size}
 use Rattle.super_meta.specs.Held.{tables_of_image}
 use Rattle.dev_store.specs.declared.errors.StoreError.{StoreError}
@@ -166,67 +160,3 @@ pub says-install : (dev : Dev) (file name : List ℕ) (wipe : Bool) →
 says-install dev file name wipe =
     says-update dev (Some file) name wipe
     ∙ ap (λ f. decides (update_refusal dev (Some file) (option_and_then tables_of_image (Some file)) name wipe) f dev (Some file)) (λ i d. updates-as (tables_of_image file) wipe d i)
-
--- The name of super, as its variable tells it.
-abbrev text_of : List ℕ → List Row → Option (List ℕ)
-text_of name rows = lookup (λ n. bytes_eq n name) rows
-
-found-front : (name : List ℕ) (xs ys : List Row) (text : List ℕ) → text_of name xs ≡ Some text → text_of name (xs ++ ys) ≡ Some text
-found-front name [] ys text e = absurd cc
-found-front name (x ∷ xs) ys text e = pick (bytes_eq x.0 name) (found-front name xs ys text) e where
-  pick : (b : Bool) → (text_of name xs ≡ Some text → text_of name (xs ++ ys) ≡ Some text) → (if b then Some x.1 else text_of name xs) ≡ Some text → (if b then Some x.1 else text_of name (xs ++ ys)) ≡ Some text
-  pick true more k = k
-  pick false more k = more k
-
-own-rows : Bool → Dev → List Row
-own-rows slotted dev =
-    (codes "version", codes "0.4")
-    ∷ (codes "product", dev.product)
-    ∷ (codes "serialno", dev.serial)
-    ∷ (codes "secure", yes_or_no dev.locked)
-    ∷ (codes "unlocked", yes_or_no (not dev.locked))
-    ∷ (if slotted then (codes "current-slot", letter dev.active ∷ []) ∷ [] else [])
-    ++ (codes "slot-count", if slotted then codes "2" else codes "0")
-    ∷ (codes "max-download-size", size_text dev.max)
-    ∷ (codes "is-userspace", yes_or_no (is_userspace dev.mode))
-    ∷ super_row dev.super_name
-
-own-super : (slotted : Bool) (dev : Dev) (name : List ℕ) → dev.super_name ≡ Some name → text_of (codes "super-partition-name") (own-rows slotted dev) ≡ Some name
-unfolding own-rows
-own-super true dev name e = rw e refl
-own-super false dev name e = rw e refl
-
-front-five : (name : List ℕ) (a b c d e : List Row) (text : List ℕ) → text_of name a ≡ Some text → text_of name (a ++ b ++ c ++ d ++ e) ≡ Some text
-front-five name a b c d e text h =
-    found-front name (a ++ b ++ c ++ d) e text (found-front name (a ++ b ++ c) d text (found-front name (a ++ b) c text (found-front name a b text h)))
-
-value-super : (dev : Dev) (name : List ℕ) → dev.super_name ≡ Some name → value dev (codes "super-partition-name") ≡ Some name
-unfolding value own-rows
-value-super dev name e =
-    or-first (text_of (codes "super-partition-name") (plain_rows dev)) (option_and_then (has_slot dev) (slotted_name (codes "super-partition-name"))) name
-    (front-five (codes "super-partition-name") (own-rows (has_slots dev) dev) (map (λ v. (v.name, v.text)) dev.vars) (with_slots_only dev (slot_rows A dev.flags.a ++ slot_rows B dev.flags.b))
-    (flat_map (λ p. partition_rows false p.name p.bytes) dev.physical) (flat_map (λ p. partition_rows true p.name p.bytes) dev.logical) name (own-super (has_slots dev) dev name e))
-
-or-none : (b : Bool) → (b || false) ≡ b
-or-none true = refl
-or-none false = refl
-
-pub super-shown : (dev : Dev) (name before now : List ℕ) (shown : Bool) → is_some dev.super_name ≡ true → Shows (value (started_in false dev) (codes "super-partition-name")) shown before now →
-    bytes_eq now name ≡ is_super dev name
-super-shown dev name before now shown there h = by dev.super_name refl there where
-  by : (o : Option (List ℕ)) → dev.super_name ≡ o → is_some o ≡ true → bytes_eq now name ≡ list_any (λ n. bytes_eq n name) (option_to_list dev.super_name)
-  by None e k = absurd cc
-  by (Some s) e k =
-      let v : value (started_in false dev) (codes "super-partition-name") ≡ Some s = value-super (started_in false dev) s e in
-      let told = subst (λ o. Shows o shown before now) v h in
-      ap (λ n. bytes_eq n name) told.1 ∙ (sym (or-none (bytes_eq s name)) ∙ ap (λ o. list_any (λ n. bytes_eq n name) (option_to_list o)) (sym e))
-
-pub none-super : (dev : Dev) (name : List ℕ) → is_none dev.super_name ≡ true → is_super dev name ≡ false
-none-super dev name h = by dev.super_name h where
-  by : (o : Option (List ℕ)) → is_none o ≡ true → list_any (λ n. bytes_eq n name) (option_to_list o) ≡ false
-  by None k = refl
-  by (Some s) k = absurd cc
-
-pub some-super : (o : Option (List ℕ)) → is_none o ≡ false → is_some o ≡ true
-some-super None h = absurd cc
-some-super (Some s) h = refl

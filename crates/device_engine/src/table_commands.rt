@@ -1,5 +1,5 @@
 //! The commands that change the table of the logical partitions, which a device takes in userspace.
-ghost use Rattle.std.specs.Prelude.{◌≡◌, bytes_eq, true, is_none, is_some, option_map, Some, None, IsTrue};
+ghost use Rattle.std.specs.Prelude.{◌≡◌, option_map, Some, None, IsTrue};
 ghost use Rattle.dev_model.specs.Partitions.{is_fastboot, is_super};
 ghost use Rattle.dev_model.specs.RefusalTexts.{text_of};
 ghost use Rattle.fb_message.specs.CommandText.{Create, Delete, Resize, UpdateSuper};
@@ -9,7 +9,7 @@ ghost use Rattle.device_engine.specs.Running.{order};
 ghost use Rattle.device_engine.specs.Working.{ordered, Worked, userspace_bar};
 
 use crate::device::Loaded;
-use crate::working::{NotDone, ended, line, loaded_bytes};
+use crate::working::{NotDone, ended, loaded_bytes};
 use dev_disk::disk::Disk;
 use dev_model::refusal::Refusal;
 use dev_store::store::Store;
@@ -71,40 +71,13 @@ pub(crate) fn resize<K: Disk>(store: &mut Store<K>, name: &Name, size: u64) -> R
     }
 }
 
-/// Whether the device has no super.
-fn lacks_super<K: Disk>(store: &Store<K>) -> bool
-    requires whole { IsWhole K.told store.now }
-    ensures lacks { result ≡ is_none store.now.device.super_name }
-{
-    store.owners().is_none()
-}
-
-/// Whether two texts are the same.
-fn is_same(text: &[u8], other: &[u8]) -> bool
-    ensures same { result ≡ bytes_eq text.now other.now }
-{
-    text == other
-}
-
-/// Whether super, which is there, has the name, as its variable tells it.
-fn names_super<K: Disk>(store: &Store<K>, name: &Name) -> bool
-    requires there { is_some store.now.device.super_name ≡ true }
-    ensures named { result ≡ is_super store.now.device name.now }
-{
-    let mut text = line(b"");
-    store.value(b"super-partition-name", false, &mut text);
-    is_same(text.bytes(), name.bytes())
-}
-
 /// Whether super has the name.
 fn is_super<K: Disk>(store: &Store<K>, name: &Name) -> bool
-    requires whole { IsWhole K.told store.now }
     ensures named { result ≡ is_super store.now.device name.now }
 {
-    if lacks_super(store) {
-        false
-    } else {
-        names_super(store, name)
+    match store.super_name() {
+        Some(own) => own == *name,
+        None => false,
     }
 }
 

@@ -1,5 +1,5 @@
 -- What a job leaves of an image that was opened.
-use Rattle.std.proofs.Common.{true, ◌≡◌, ◌∙◌, ◌⊎◌, inl, inr, refl, sym, ap, subst, ℕ, List, Option, Some, None, Ok, Err, arith}
+use Rattle.std.proofs.Common.{true, ◌≡◌, ◌∙◌, ◌⊎◌, inl, inr, refl, sym, ap, subst, ℕ, List, Option, Some, None, Result, Ok, Err, arith}
 use Rattle.std.specs.Prelude.{IfSome, is_some}
 use Rattle.std.proofs.lemmas.Bool.{false≢true}
 use Rattle.fb_frame.specs.Told.{Both}
@@ -52,6 +52,22 @@ others-opened old mid new path dev h k =
       later = omega (arith, a, b);
       torn = λ x y z t. k.torn x y z (h.torn x y z t);
     }
+
+-- a file that stands for no device didn't open
+ok-apart : (dev : Dev) (bad : BadImage) → ◌≡◌ {A = Result Dev BadImage} (Ok dev) (Err bad) → ⊥
+ok-apart dev bad h = absurd cc
+
+stands-apart : (s : Option (List ℕ)) (dev : Dev) (bad : BadImage) → StandsIn s (Ok dev) → StandsIn s (Err bad) → ⊥
+stands-apart None dev bad h k = h
+stands-apart (Some file) dev bad h k = ok-apart dev bad (sym h ∙ k)
+
+pub spared-opened : (old new : DiskTold) (path : List ℕ) (dev : Dev) (bad : BadImage) → OpensTold old.files path dev → OthersKept old new path → IsBadImage old.files path bad → new.files ≡ old.files
+spared-opened old new path dev bad h o b = by old.files new.files h o.others b
+  where
+    by : (a c : Option Files) → OpensTold a path dev → KeepsOthers a c path → IsBadImage a path bad → c ≡ a
+    by None None h o b = refl
+    by None (Some f) h o b = absurd o
+    by (Some f) c h o b = absurd (stands-apart (f path) dev bad h b)
 
 -- the file that is open is that of the path
 open-after : (b c : Option Files) (p q : Option (List ℕ)) (path : List ℕ) → IsOpen b p path → q ≡ p → KeepsUnopened b c p → IsOpen c q path

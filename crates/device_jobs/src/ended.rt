@@ -6,7 +6,7 @@ use crate::job::JobError;
 use dev_store::errors::OpenError;
 
 /// Why a job isn't done on an image that isn't opened.
-pub(crate) fn opening_stop(error: &OpenError) -> JobError
+pub fn opening_stop(error: &OpenError) -> JobError
     ensures { result ≡ opening_stop error.now }
 {
     match error {

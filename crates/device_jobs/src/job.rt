@@ -7,7 +7,7 @@ use std::alloc::AllocError;
 
 /// Why a job isn't done.
 #[derive(Debug, Drop)]
-pub(crate) enum JobError {
+pub enum JobError {
     /// Memory was wanting.
     Memory,
     /// The disk failed.

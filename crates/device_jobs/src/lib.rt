@@ -3,12 +3,12 @@
 
 mod device_text;
 mod digests;
-mod ended;
-mod job;
+pub mod ended;
+pub mod job;
 mod lines;
 pub mod make;
 mod parts;
-mod report;
+pub mod report;
 pub mod show;
 pub mod unlock;
 mod unlocking;

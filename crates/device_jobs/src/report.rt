@@ -8,7 +8,7 @@ use fb_frame::sink::Sink;
 use std::alloc::Global;
 
 /// Puts the lines, and answers the status: 9 where they aren't put.
-fn end<S: Sink>(out: &mut S, lines: &[u8], status: u8) -> u8
+pub fn end<S: Sink>(out: &mut S, lines: &[u8], status: u8) -> u8
     ensures ends { Ends status lines.now result (output (S.text out.old) (S.faults out.old))
         (output (S.text out.new) (S.faults out.new)) }
     ensures later { S.faults out.old ≤ S.faults out.new }
@@ -32,7 +32,7 @@ fn stop_status(error: &JobError) -> u8
 }
 
 /// Puts the line of a job that stopped, and answers its status.
-fn stop<S: Sink>(alloc: Global, out: &mut S, error: &JobError) -> u8
+pub fn stop<S: Sink>(alloc: Global, out: &mut S, error: &JobError) -> u8
     ensures ends { EndsBy (stop_status error.now) (stop_line error.now) result
         (output (S.text out.old) (S.faults out.old)) (output (S.text out.new) (S.faults out.new)) }
     ensures later { S.faults out.old ≤ S.faults out.new }

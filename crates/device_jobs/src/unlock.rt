@@ -1,9 +1,10 @@
 //! Unlocking the device of an image.
 ghost use Rattle.std.specs.Prelude.{◌≡◌, ◌≢◌, ◌≤◌, OnOk, IfOk, IfErr};
 ghost use Rattle.fb_frame.specs.Causes.{Rose};
+ghost use Rattle.dev_model.specs.declared.bad_image.BadImage.{BadImage};
 ghost use Rattle.dev_disk.specs.Files.{KeepsOthers, StaysTorn};
 ghost use Rattle.dev_store.specs.Faults.{IsHonest};
-ghost use Rattle.dev_store.specs.Opening.{OnFile, OthersKept};
+ghost use Rattle.dev_store.specs.Opening.{IsBadImage, OnFile, OthersKept};
 ghost use Rattle.device_jobs.specs.Outcomes.{unlock_outcome};
 ghost use Rattle.device_jobs.specs.Jobs.{IsDecided, IsDiskEnd, IsReported};
 ghost use Rattle.device_jobs.specs.Leaves.{IsDone, LeavesUnlocking};
@@ -30,6 +31,8 @@ fn unlock_job<K: Disk>(alloc: Global, disk: &mut K, file: &str) -> Result<Vec<u8
         (IsDone (unlock_outcome (K.told disk.old).files file.now) (K.told disk.new).files file.now) }
     ensures leaves { IsHonest (K.told disk.new).torn →
         OnFile LeavesUnlocking (K.told disk.old).files (K.told disk.new).files file.now }
+    ensures spared { (bad : BadImage) → IsBadImage (K.told disk.old).files file.now bad →
+        (K.told disk.new).files ≡ (K.told disk.old).files }
     ensures others { OthersKept (K.told disk.old) (K.told disk.new) file.now }
     ensures same { K.lent disk.new ≡ K.lent disk.old }
 {
@@ -59,6 +62,8 @@ pub fn unlock_image<K: Disk, S: Sink>(alloc: Global, file: &str, disk: &mut K, o
         IsDone (unlock_outcome (K.told disk.old).files file.now) (K.told disk.new).files file.now }
     ensures leaves { IsHonest (K.told disk.new).torn →
         OnFile LeavesUnlocking (K.told disk.old).files (K.told disk.new).files file.now }
+    ensures spared { (bad : BadImage) → IsBadImage (K.told disk.old).files file.now bad →
+        (K.told disk.new).files ≡ (K.told disk.old).files }
     ensures untouched { result ≡ 4 → (K.told disk.new).files ≡ (K.told disk.old).files }
     ensures others { KeepsOthers (K.told disk.old).files (K.told disk.new).files file.now }
     ensures later { (K.told disk.old).faults ≤ (K.told disk.new).faults }

@@ -10,5 +10,6 @@ pub mod OrderLemmas
 pub mod TurnLemmas
 pub mod LifeLemmas
 pub mod TalkLemmas
+pub mod HaltLemmas
 pub mod KeptLemmas
 pub mod ServeLemmas

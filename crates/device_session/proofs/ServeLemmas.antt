@@ -10,15 +10,15 @@ use Rattle.wire_model.specs.Wire.{fresh}
 use Rattle.device_session.specs.Gates.{Connection, Connections, GateTold, GateKept, IsAccepted, IsUsedUp, new_connection}
 use Rattle.device_session.specs.Living.{Live, wire_of}
 use Rattle.device_session.specs.Lives.{IsBegun, IsTold}
-use Rattle.device_session.specs.Serving.{ServesOne, ServesNext, Serves, ServesNew, IsMore, EndsBy}
+use Rattle.device_session.specs.Serving.{ServesOne, ServesNext, Serves, ServesNew, IsMore, EndsBy, HaltsByDisk}
 use Rattle.device_session.specs.Talking.{IsTalking, OnTold, TalksOut, GateCalm}
 use Rattle.dev_model.specs.declared.device.Mode.{Mode}
 use Rattle.dev_model.specs.declared.device.Mode.TheVariants as mode
 use Rattle.device_engine.specs.declared.device.Device.{Device}
 use Rattle.device_engine.specs.Running.{held_of, IsTyped, IsInOrder, HasMax, Follows}
 use Rattle.device_session.specs.declared.serving.ServeEnd.TheVariants as ends
-use Rattle.device_session.proofs.StillLemmas.{max-in, max-back}
-use Rattle.device_session.proofs.KeptLemmas.{disk-same, disk-then}
+use Rattle.device_session.proofs.StillLemmas.{running, max-in, max-back}
+use Rattle.device_session.proofs.KeptLemmas.{disk-same, disk-then, halted-behind}
 use Rattle.device_session.proofs.LifeLemmas.{IsAgreed, told-kept, begun-along}
 use Rattle.device_session.proofs.TalkLemmas.{same-last}
 
@@ -150,6 +150,14 @@ follows-then told lent old mid new f a b =
       max = subst (λ (n : ℕ). HasMax n (held_of new).device) max b.max;
       kept = disk-then told lent old.disk (held_of mid).disk (held_of new).disk a.kept b.kept;
     }
+
+pub halts-same : {K : Type 0} (told : K → DiskTold) (held : Held K) → HaltsByDisk told held held
+halts-same told held f e = absurd (running held.device.mode f e)
+
+pub halts-then : {K L : Type 0} (told : K → DiskTold) (lent : K → L) (old : Held K) (mid new : Device K) → IsTrue (is_fastboot (held_of mid).device.mode) → Follows told lent old mid →
+    HaltsByDisk told (held_of mid) (held_of new) → HaltsByDisk told old (held_of new)
+halts-then told lent old mid new f a h g e =
+    halted-behind told old.disk (held_of mid).disk (held_of new) a.kept (h f e)
 
 pub fits-still : {K L : Type 0} (told : K → DiskTold) (lent : K → L) (old : Held K) (device : Device K) (room : ℕ) → IsTrue (is_fastboot (held_of device).device.mode) →
     Follows told lent old device → old.device.max ≤ room → (held_of device).device.max ≤ room

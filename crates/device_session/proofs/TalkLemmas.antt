@@ -102,6 +102,8 @@ failed told begin live left c d g r f front t =
       taken = t.taken;
       within = omega (arith, t.read, r);
       goes = subst (λ (l : List ℕ). GoesBy (Rose (told begin.disk).faults (told live.held.disk).faults) (fresh begin.device) (take t.taken l) (record t.state { out = c.written ++ t.state.out })) (sym g) t.along.goes;
+      tells = t.along.has;
+      later = t.along.later;
       left = t.along.at.device;
       written = (front.0, ap (λ (l : List ℕ). c.written ++ l) out ∙ front.1);
       whole = λ e. absurd (true-false d.failed f e);
@@ -136,6 +138,8 @@ calm-end told begin live left c empty over t =
       taken = t.taken;
       within = omega (arith, t.read);
       goes = t.along.goes;
+      tells = t.along.has;
+      later = t.along.later;
       left = t.along.at.device;
       written = ([], out ∙ sym (append-nil c.written));
       whole = λ e. sym out;

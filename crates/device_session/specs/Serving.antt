@@ -4,8 +4,10 @@ use Rattle.std.specs.Prelude.{is_some, IsTrue, IsFalse}
 use Rattle.fb_frame.specs.Causes.{Rose}
 use Rattle.fb_frame.specs.Told.{Both}
 use Rattle.dev_disk.specs.Disks.{DiskTold}
+use Rattle.dev_model.specs.declared.device.Dev.{Dev}
 use Rattle.dev_model.specs.declared.device.Mode.{Mode}
 use Rattle.dev_model.specs.declared.device.Mode.TheVariants.{System, Recovery, Halted}
+use Rattle.dev_model.specs.Partitions.{is_fastboot}
 use Rattle.dev_store.specs.Held.{Held, image_of, seen}
 use Rattle.device_engine.specs.Running.{HasDevice}
 use Rattle.wire_model.specs.Wire.{Wire, fresh}
@@ -28,6 +30,8 @@ pub record ServesOne {K : Type 0} (told : K → DiskTold) (old new : Held K) (c 
   pub within : taken ≤ c.read
   pub goes : GoesBy (Rose (told old.disk).faults (told new.disk).faults) (fresh old.device)
       (take taken c.gives) state
+  pub tells : IsTrue (is_some (image_of told new))
+  pub later : (told old.disk).faults ≤ (told new.disk).faults
   pub left : HasDevice told new (seen (image_of told new) state.device)
   pub written : IsFront c.written state.out
   pub whole : IsFalse c.failed → c.written ≡ state.out
@@ -74,3 +78,14 @@ EndsBy ends.Limit mode left before after = left ≡ 0
 EndsBy ends.NoMore mode left before after = (0 < left) × IsUsedUp after.connections
 EndsBy ends.Gate mode left before after = (0 < left) × Rose before.unaccepted after.unaccepted
 EndsBy _ mode left before after = ⊥
+
+-- A disk call failed after what the first disk told, and the image stands for some device that halted.
+pub record IsHaltedBy {K : Type 0} (told : K → DiskTold) (before : K) (held : Held K) : Type 0 where
+  pub rose : Rose (told before).faults (told held.disk).faults
+  pub left : Dev
+  pub has : HasDevice told held left
+
+-- a device that ran fastboot halts only where a disk call failed
+abbrev pub HaltsByDisk : {K : Type 0} → (K → DiskTold) → Held K → Held K → Type 0
+HaltsByDisk told old new =
+    IsTrue (is_fastboot old.device.mode) → new.device.mode ≡ Halted → IsHaltedBy told old.disk new

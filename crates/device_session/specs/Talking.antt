@@ -3,6 +3,7 @@ use Rattle.std.specs.Prelude.{◌≡◌, ℕ, ◌+◌, ◌^◌, ◌<◌, ◌≤�
 use Rattle.std.specs.Prelude.{Option, is_some, IsTrue, IsFalse}
 use Rattle.fb_frame.specs.Told.{Both}
 use Rattle.dev_disk.specs.Disks.{DiskTold}
+use Rattle.dev_model.specs.declared.device.Mode.TheVariants.{Halted}
 use Rattle.dev_model.specs.Partitions.{is_fastboot}
 use Rattle.dev_store.specs.Held.{Held, image_of, DiskKept}
 use Rattle.device_engine.specs.Running.{HasMax}
@@ -11,7 +12,7 @@ use Rattle.wire_told.specs.Told.{MayConnect}
 use Rattle.device_session.specs.Gates.{Connection, Connections, GateTold, GateKept, new_connection}
 use Rattle.device_session.specs.Living.{Live}
 use Rattle.device_session.specs.Lives.{IsAlong}
-use Rattle.device_session.specs.Serving.{ServesOne}
+use Rattle.device_session.specs.Serving.{ServesOne, IsHaltedBy}
 
 -- What was taken of the connection led its session to a state; what was written and what stands in the outbox
 -- is what was answered; and `left` was read and isn't taken yet.
@@ -79,4 +80,5 @@ pub record IsKept {K L : Type 0} (told : K → DiskTold) (lent : K → L) (old n
   pub limit : IsFalse new.closed → new.taken < 2 ^ 62
   pub max : HasMax old.held.device.max new.held.device
   pub kept : DiskKept told lent old.held.disk new.held.disk
+  pub halts : new.held.device.mode ≡ Halted → IsHaltedBy told old.held.disk new.held
   pub room : new.room ≡ old.room

@@ -5,6 +5,7 @@ ghost use Rattle.dev_model.specs.Partitions.{is_fastboot};
 ghost use Rattle.device_engine.specs.Running.{held_of, IsTyped, IsInOrder, Follows};
 ghost use Rattle.device_session.specs.Gates.{Connections, GateTold, GateKept, IsAccepted};
 ghost use Rattle.device_session.specs.Serving.{ServesNext, ServesGate, AcceptsCount, EndsBy};
+ghost use Rattle.device_session.specs.Serving.{HaltsByDisk};
 ghost use Rattle.device_session.specs.Talking.{GateCalm};
 
 use crate::gate::Gate;
@@ -48,6 +49,7 @@ fn serve_one<K: Disk, G: Gate>(device: Device<K>, room: Room, gate: &mut G) -> (
     ensures serves { (before : Option Connections) → Both IsAccepted before (G.told gate.old).connections →
         Both (ServesNext K.told (held_of device) (held_of result.0)) before (G.told gate.new).connections }
     ensures follows { Follows K.told K.lent (held_of device) result.0 }
+    ensures halts { HaltsByDisk K.told (held_of device) (held_of result.0) }
     ensures room { result.1 ≡ room }
     ensures calm { GateCalm (G.told gate.old) (G.told gate.new) }
     ensures lent { G.lent gate.new ≡ G.lent gate.old }
@@ -98,6 +100,7 @@ pub fn serve<K: Disk, G: Gate>(
     ensures ends { EndsBy result.end (held_of result.device).device.mode (connections - result.connections)
         (G.told gate.old) (G.told gate.new) }
     ensures follows { Follows K.told K.lent (held_of device) result.device }
+    ensures halts { HaltsByDisk K.told (held_of device) (held_of result.device) }
     ensures room { result.room ≡ room }
     ensures kept { GateKept (G.told gate.old) (G.told gate.new) }
     ensures lent { G.lent gate.new ≡ G.lent gate.old }

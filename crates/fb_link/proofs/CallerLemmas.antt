@@ -1,32 +1,28 @@
 -- What a question and a download leave, as a host above the typed states knows it.
-use Rattle.std.proofs.Common.{◌≡◌, inl, inr, ℕ, ◌+◌, ◌-◌, ◌^◌, ◌≤◌, List, ◌++◌, length, Option, Some, None, refl, sym, ap, ◌∙◌, subst, arith, length-append}
-use Rattle.std.specs.Prelude.{codes, nat_le, nat_lt, IsTrue}
+use Rattle.std.proofs.Common.{◌≡◌, inl, inr, ℕ, ◌+◌, ◌-◌, ◌^◌, ◌≤◌, List, ◌++◌, length, Option, Some, None, refl, ap, ◌∙◌, arith, length-append}
+use Rattle.std.specs.Prelude.{codes, nat_le, nat_lt}
 use Rattle.std.proofs.lemmas.Bool.Decides.{nat_tests}
 use Rattle.fb_frame.specs.Causes.{Rose}
-use Rattle.fb_message.specs.CommandText.{CommandValue, GetVar, Download, command_of}
+use Rattle.fb_message.specs.CommandText.{CommandValue, GetVar, Download}
 use Rattle.fb_message.specs.declared.reply.Reply.{Reply}
 use Rattle.fb_message.specs.declared.reply.Reply.TheVariants.{Okay, Fail, Load}
 use Rattle.fb_frame.specs.Numbers.{hex8}
 use Rattle.fb_message.proofs.Words.{only-inverse}
-use Rattle.fb_message.proofs.Commands.{command_again}
 use Rattle.dev_model.specs.declared.device.Dev.{Dev}
 use Rattle.dev_model.specs.Refusals.{download_refusal}
 use Rattle.wire_model.specs.Halts.{Halts}
 use Rattle.wire_model.specs.Says.{Loaded, says, awaits}
 use Rattle.wire_model.specs.Wire.{Wire}
-use Rattle.wire_told.specs.Answered.{Stays, IsFree, Free, IsWritten, Wrote}
+use Rattle.wire_told.specs.Answered.{Stays, IsWritten, Wrote}
 use Rattle.wire_told.specs.Exchanges.{said_to, IsExchanged, Exchanged, FreeFor}
-use Rattle.wire_told.specs.FirstPath.{is_first_question, is_first_path, PassesFirst}
 use Rattle.wire_told.specs.Peers.{Peer, Apart, Joined, OnLink}
 use Rattle.wire_told.specs.Ports.{PortTold, OpensAt}
-use Rattle.wire_told.specs.Turns.{CommandTest}
-use Rattle.wire_told.specs.Told.{Heard, Passes}
-use Rattle.wire_told.proofs.ExchangeLemmas.{Free-for, FreeFor-next, FreeFor-wrote, FreeFor-heard, FreeFor-less, FreeFor-opened, Loads-wrote, said-open}
+use Rattle.wire_told.specs.Told.{Heard}
+use Rattle.wire_told.proofs.ExchangeLemmas.{FreeFor-next, FreeFor-wrote, FreeFor-heard, FreeFor-less, FreeFor-opened, Loads-wrote, said-open}
 use Rattle.wire_told.proofs.NextLemmas.{Stays-heard, Stays-trans}
 use Rattle.wire_told.proofs.PortLemmas.{Kept-trans}
-use Rattle.wire_told.proofs.Lifted.{of-of}
 use Rattle.wire_told.proofs.StateLemmas.{suits-load, announces-download}
-use Rattle.fb_link.specs.Concluded.{Concluded, CommandPasses}
+use Rattle.fb_link.specs.Concluded.{Concluded}
 use Rattle.fb_link.specs.Seen.{Seen}
 use Rattle.fb_link.proofs.TypedLemmas.{Exchanged-concluded}
 
@@ -100,17 +96,6 @@ pub FreeFor-begun : (n m : ℕ) (a b : Seen) (spare : ℕ) → FreeFor (4104 + s
 FreeFor-begun n m a b spare f k =
     let o = only-inverse (nat_lt n (2 ^ 32)) (codes "download:" ++ hex8 n) k.payload k.spelled in
     FreeFor-next (Download n) a.port b.port k.payload (Load m) spare k.spelled (omega (arith, ap length o.1, length-append (codes "download:") (hex8 n))) (said-open (Download n) refl) (load-told m) f (Exchanged-concluded (Download n) a b (Load m) k)
-
--- Each port takes these commands.
-passes-by : (test : CommandTest) (c : CommandValue) (p : List ℕ) → PassesFirst test → ((loaded : Loaded) → IsTrue (is_first_path loaded c)) → command_of p ≡ c → (a : Option Peer) → Free a → Passes test a p
-passes-by test c p first q e a f =
-    of-of IsFree (λ w. IsTrue (test w.loaded p)) (λ w o. first w.loaded p (subst (λ x. IsTrue (is_first_path w.loaded x)) (sym e) (q w.loaded))) a f
-
-pub Passes-question : (test : CommandTest) (name : List ℕ) (a : Option Peer) → PassesFirst test → IsTrue (is_first_question name) → Free a → CommandPasses test a (GetVar name)
-Passes-question test name a first q f = λ p e. passes-by test (GetVar name) p first (λ loaded. q) (command_again (GetVar name) p e) a f
-
-pub Passes-download : (test : CommandTest) (n : ℕ) (a : Option Peer) → PassesFirst test → Free a → CommandPasses test a (Download n)
-Passes-download test n a first f = λ p e. passes-by test (Download n) p first (λ loaded. refl) (command_again (Download n) p e) a f
 
 -- after a download in one frame
 pub FreeFor-loaded : (n m : ℕ) (a b : Seen) (p x : List ℕ) (c d : Option Peer) (spare : ℕ) → FreeFor (4104 + (8 + length p + spare)) a.port.peer → Concluded (Download n) a b (Load m) → Wrote b.port.peer c p → Heard c d x → FreeFor spare d

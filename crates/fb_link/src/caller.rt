@@ -4,7 +4,6 @@ ghost use Rattle.std.specs.Prelude.{◌≡◌, ℕ, ◌+◌, ◌<◌, ◌≤◌,
 ghost use Rattle.fb_link.specs.Answers.{port_of};
 ghost use Rattle.wire_told.specs.Answered.{Stays, Free, Sound};
 ghost use Rattle.wire_told.specs.Exchanges.{FreeFor};
-ghost use Rattle.wire_told.specs.FirstPath.{is_first_question};
 ghost use Rattle.wire_told.specs.Peers.{OfLink};
 ghost use Rattle.wire_told.specs.Ports.{Kept};
 
@@ -17,7 +16,6 @@ use fb_message::command::Command;
 #[tactic(auto, using(crate::proofs::CallerLemmas::asks))]
 fn ask<P: Port + Drop, S: Sink>(ready: Ready<P>, name: &[u8], shown: &mut S) -> Option<Ready<P>>
     requires free { Free (P.told ready).peer }
-    requires question { IsTrue (is_first_question name.now) }
     requires short { length name.now ≤ 4089 }
     ensures kept { IfSome result (λ next. Kept (P.told ready) (P.told next)) }
     ensures stays { IfSome result (λ next. Stays (P.told ready).peer (P.told next).peer) }

@@ -3,39 +3,24 @@
 
 use dev_disk::file::FileDisk;
 use fb_frame::write_sink::WriteSink;
-use fb_top::host::{WordsError, host_main, refuse_words};
-use fb_top::plain_port::PlainPort;
+use fb_link::tcp_port::TcpPort;
 use flash_plan::folder_dir::FolderDir;
-use std::alloc::Global;
-use std::env;
-use std::io::ErrorKind;
+use host_top::host::{host_main, refuse_words};
+use pair_port::any_port::AnyPort;
+use pair_port::pair::PairPort;
 use std::process::ExitCode;
-use std::rt::Env;
-
-/// The words of the command line behind the program's name.
-fn words_of<R: Env + Alloc<A = Global>>(rt: &R) -> Result<Vec<String>, WordsError> {
-    let args = match env::args(rt) {
-        Ok(args) => args,
-        Err(e) if e.kind() == ErrorKind::OutOfMemory => return Err(WordsError::Memory),
-        Err(_) => return Err(WordsError::NotText),
-    };
-    let mut words = Vec::new(rt.alloc());
-    for word in args.skip(1) {
-        let Ok(()) = words.push(word) else {
-            return Err(WordsError::Memory);
-        };
-    }
-    Ok(words)
-}
+use word_rules::arguments::words_of;
 
 fn main(rt: HostRuntime) -> ExitCode {
+    let alloc = rt.alloc();
     let mut out = WriteSink::new(rt.stdout());
     let words = match words_of(&rt) {
         Ok(words) => words,
         Err(error) => return ExitCode::from(refuse_words(error, &mut out)),
     };
     let mut dir = FolderDir::new(&rt);
-    let mut port = PlainPort::new(FileDisk::new(&rt));
-    let status = host_main(rt.alloc(), words.as_slice(), &mut dir, &mut port, &mut out);
+    let images = PairPort::new(FileDisk::new(&rt), Vec::new(alloc), Vec::new(alloc));
+    let mut port = AnyPort::new(TcpPort::new(&rt), images);
+    let status = host_main(alloc, words.as_slice(), &mut dir, &mut port, &mut out);
     ExitCode::from(status)
 }

@@ -50,7 +50,7 @@ use Rattle.host_driver.specs.HeardLast.{HeardThen}
 use Rattle.host_driver.specs.Puts.{HasFlashed, IsFlashLeft, IsFlashStuck, FlashFails}
 use Rattle.host_driver.specs.Stepping.{IsServing, Serving, stop_of}
 use Rattle.host_driver.proofs.HaltLemmas.{flash-short, under-over}
-use Rattle.host_driver.proofs.LoadLemmas.{quiet-none, quiet-part, Passes-all}
+use Rattle.host_driver.proofs.LoadLemmas.{quiet-none, quiet-part}
 use Rattle.host_driver.proofs.StepLemmas.{decides-okay, decides-fail, took, decisions}
 use Rattle.host_driver.proofs.TakeLemmas.{unshown-link, unshown-none, heard-more, heard-again, heard-broken, why-broken, grows-part, decided-one, none-before, okay-told, fail-told, wire-is}
 
@@ -255,4 +255,4 @@ flash-some name h = ap (λ b. only_if b (codes "flash:" ++ name)) h
 pub Free-serving : (spare : ℕ) (a : Option Peer) → Serving spare a → Free a
 Free-serving spare a s = of-of (IsServing spare) IsFree (λ w p. record { running = p.free.running; bounded = (let b = p.free.bounded in omega (arith, b)) }) a s
 
-pub ruleset flashes = (Passes-all, Free-serving)
+pub ruleset flashes = (Free-serving)

@@ -1,6 +1,6 @@
 -- A download of a piece, from its command to its end.
 use Rattle.std.proofs.Common.{◌≡◌, inl, inr, ℕ, ◌≢◌, ◌+◌, ◌^◌, ◌<◌, ◌≤◌, Bool, true, false, List, [], ◌∷◌, ◌++◌, length, length-append, Option, Some, None, refl, sym, ap, ◌∙◌, subst, arith}
-use Rattle.std.specs.Prelude.{codes, ◌&&◌, nat_lt, ◌==◌, if◌then◌else◌, unwrap_or, IsTrue}
+use Rattle.std.specs.Prelude.{codes, ◌&&◌, nat_lt, ◌==◌, if◌then◌else◌, unwrap_or}
 use Rattle.std.specs.List.{list_all}
 use Rattle.std.proofs.lemmas.Bool.Decides.{nat_tests}
 use Rattle.std.proofs.lemmas.Grind.{flat_map-append}
@@ -11,7 +11,7 @@ use Rattle.fb_message.proofs.Commands.{command_again}
 use Rattle.host_driver.specs.Driving.{Grows}
 use Rattle.fb_frame.specs.Causes.{Rose}
 use Rattle.fb_frame.specs.Framing.{frame, head}
-use Rattle.fb_message.specs.CommandText.{CommandValue, Download, spelling}
+use Rattle.fb_message.specs.CommandText.{Download, spelling}
 use Rattle.fb_message.specs.declared.reply.Reply.{Reply}
 use Rattle.fb_message.specs.declared.reply.Reply.TheVariants.{Okay, Fail, Load}
 use Rattle.dev_model.specs.declared.device.Dev.{Dev}
@@ -24,19 +24,18 @@ use Rattle.dev_model.proofs.Valid.{both}
 use Rattle.dev_model.specs.Refusals.{download_refusal}
 use Rattle.wire_model.specs.Says.{Loaded, says, awaits}
 use Rattle.wire_model.specs.Wire.{Wire}
-use Rattle.wire_told.specs.Answered.{IsSending as IsSendingWire, Downloading, Unbegun, Loads, got_of, is_line, ends_well, reply_frames, Sound, IsFree, Free, IsAnswered}
+use Rattle.wire_told.specs.Answered.{IsSending as IsSendingWire, Downloading, Unbegun, Loads, got_of, is_line, ends_well, reply_frames, Sound, IsAnswered}
 use Rattle.wire_told.specs.Exchanges.{said_to, IsExchanged, Exchanged, IsInterrupted}
 use Rattle.wire_told.specs.Peers.{Peer, Apart, Joined, OfLink, OnLink, OffLink}
 use Rattle.wire_told.specs.Places.{Appended}
 use Rattle.wire_told.specs.Ports.{PortTold, Kept, Drops}
 use Rattle.wire_told.specs.Told.{Heard, HungUp}
-use Rattle.wire_told.specs.Turns.{CommandTest}
 use Rattle.wire_told.proofs.KeptLemmas.{Appended-append}
 use Rattle.wire_told.proofs.Lifted.{of-of, of-both, on-on, on-then, kept-hung}
 use Rattle.wire_told.proofs.ExchangeLemmas.{said-open}
 use Rattle.wire_told.proofs.PortLemmas.{Kept-trans}
 use Rattle.wire_told.proofs.StateLemmas.{finished, suits-load, announces-download}
-use Rattle.fb_link.specs.Concluded.{Concluded, ConcludedAfter, CommandPasses, Finished, IsCutOff, IsGivenUp, IsUndue, IsNoVerdict, LogsWhole}
+use Rattle.fb_link.specs.Concluded.{Concluded, ConcludedAfter, Finished, IsCutOff, IsGivenUp, IsUndue, IsNoVerdict, LogsWhole}
 use Rattle.fb_link.specs.Seen.{Seen, seen}
 use Rattle.fb_link.specs.declared.link_error.LinkError.{LinkError}
 use Rattle.fb_link.specs.declared.link_error.LinkError.TheVariants as link
@@ -50,7 +49,7 @@ use Rattle.host_driver.specs.declared.drive.DriveError.{DriveError}
 use Rattle.host_driver.specs.declared.drive.DriveError.TheVariants as stop
 use Rattle.host_driver.specs.HeardLast.{HeardThen, HeardAt}
 use Rattle.host_driver.specs.PutPieces.{AreSent, HasBegun, HasEnded, HeardLoad, Unrefused, IsUnloaded, IsUnread, GoesOn, IsLoadedBy, AreLoaded}
-use Rattle.host_driver.specs.Stepping.{TakesAll, NoFiles, stop_of, WhyStopped}
+use Rattle.host_driver.specs.Stepping.{NoFiles, stop_of, WhyStopped}
 use Rattle.host_driver.proofs.TakeLemmas.{heard-more, heard-again, heard-broken, why-broken, grows-part, unshown-link, unshown-none, unshown-later}
 use Rattle.host_driver.specs.Wires.{command_wire, data_wire, download_wire, LogGrew}
 
@@ -408,9 +407,6 @@ Unbegun-unshown n a b f k cut x kept = record {
   kept = kept;
 }
 
-pub Passes-all : (test : CommandTest) (a : Option Peer) (c : CommandValue) → TakesAll test → Free a → CommandPasses test a c
-Passes-all test a c t f = λ p e. of-of IsFree (λ w. IsTrue (test w.loaded p)) (λ w u. t w.loaded p) a f
-
 pub counted : (n m : ℕ) (a b : Seen) → Concluded (Download n) a b (Load m) → m ≡ n
 counted n m a b k = same-count (announces-download (Download n) m (suits-load (Download n) m k.suitable))
   where
@@ -543,7 +539,7 @@ Ended-unshown lines a b k given kept = record {
   kept = kept;
 }
 
-pub ruleset announces = (Passes-all, counted, Okay-never)
+pub ruleset announces = (counted, Okay-never)
 
 -- A whole download.
 begun-quiet : (n m : ℕ) (a b : Seen) → OfLink (λ w. n ≤ w.device.max) a.port.peer → Concluded (Download n) a b (Load m) → OfLink (λ w. Grew a.text b.text []) a.port.peer

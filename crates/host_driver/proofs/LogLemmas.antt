@@ -4,7 +4,6 @@ use Rattle.fb_frame.specs.Causes.{Rose}
 use Rattle.dev_model.specs.declared.device.Dev.{Dev}
 use Rattle.wire_told.specs.Peers.{Peer, Apart, Joined}
 use Rattle.wire_model.specs.Wire.{Wire}
-use Rattle.wire_told.specs.Turns.{CommandTest}
 use Rattle.wire_told.specs.Told.{GoesBy, Sent, IsLeft, LeftBy, HungUp, InTurn}
 use Rattle.wire_told.specs.Ports.{PortTold, Sends}
 use Rattle.host_driver.specs.Logs.{Logged}
@@ -36,13 +35,13 @@ LeftBy-raised k l r (Some (Joined w)) (Some (Joined v)) x f = absurd f
 LeftBy-raised k l r (Some (Joined w)) (Some (Apart dev)) x f = left-raised k l r x w dev f
 
 -- nothing was sent, and the connection was given up
-pub LeftBy-refused : (test : CommandTest) (k l : ℕ) (a b : Option Peer) (x : List ℕ) → InTurn test a x → HungUp a b → LeftBy k l a b x
-LeftBy-refused test k l None None x t h = tt
-LeftBy-refused test k l None (Some b) x t h = absurd h
-LeftBy-refused test k l (Some (Apart dev)) b x t h = absurd t
-LeftBy-refused test k l (Some (Joined w)) None x t h = absurd h
-LeftBy-refused test k l (Some (Joined w)) (Some (Joined v)) x t h = absurd h
-LeftBy-refused test k l (Some (Joined w)) (Some (Apart dev)) x t h = record {
+pub LeftBy-refused : (k l : ℕ) (a b : Option Peer) (x : List ℕ) → InTurn a x → HungUp a b → LeftBy k l a b x
+LeftBy-refused k l None None x t h = tt
+LeftBy-refused k l None (Some b) x t h = absurd h
+LeftBy-refused k l (Some (Apart dev)) b x t h = absurd t
+LeftBy-refused k l (Some (Joined w)) None x t h = absurd h
+LeftBy-refused k l (Some (Joined w)) (Some (Joined v)) x t h = absurd h
+LeftBy-refused k l (Some (Joined w)) (Some (Apart dev)) x t h = record {
   count = 0;
   within = omega arith;
   state = w;

@@ -12,13 +12,11 @@ use Rattle.dev_model.specs.declared.step.Step.{Step}
 use Rattle.dev_model.specs.Attempts.{LeftBehind}
 use Rattle.dev_model.specs.Partitions.{is_fastboot}
 use Rattle.dev_model.specs.Steps.{is_boot}
-use Rattle.wire_model.specs.Says.{Loaded}
 use Rattle.wire_model.specs.Wire.{Wire}
 use Rattle.wire_told.specs.Answered.{Sound}
 use Rattle.wire_told.specs.Exchanges.{IsFreeFor}
 use Rattle.wire_told.specs.Peers.{Peer, OfLink}
 use Rattle.wire_told.specs.Ports.{PortTold, Kept}
-use Rattle.wire_told.specs.Turns.{CommandTest}
 use Rattle.flash_plan.specs.declared.plan.Order.{Order}
 use Rattle.fb_link.specs.Seen.{Seen}
 use Rattle.fb_link.specs.declared.link_error.LinkError.{LinkError}
@@ -31,10 +29,6 @@ use Rattle.host_driver.specs.Driving.{Grows}
 use Rattle.host_driver.specs.HeardLast.{HeardThen, HeardAt}
 use Rattle.host_driver.specs.Jobs.{OfTold}
 use Rattle.host_driver.specs.Wires.{LogGrew, command_wire}
-
--- the port takes every command
-abbrev pub TakesAll : CommandTest → Type 0
-TakesAll test = (loaded : Loaded) (payload : List ℕ) → IsTrue (test loaded payload)
 
 -- An open connection to a device that runs fastboot, over which so many bytes may come.
 pub record IsServing (spare : ℕ) (w : Wire) : Type 0 where

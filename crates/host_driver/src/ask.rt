@@ -3,7 +3,7 @@ ghost use Rattle.std.specs.Prelude.{◌≡◌, ◌≤◌, length, IfOk, IfErr};
 ghost use Rattle.fb_frame.specs.Causes.{Rose};
 ghost use Rattle.fb_link.specs.Seen.{seen};
 ghost use Rattle.host_driver.specs.Asking.{IsAsked, IsUnasked};
-ghost use Rattle.host_driver.specs.Stepping.{TakesAll, Serving};
+ghost use Rattle.host_driver.specs.Stepping.{Serving};
 
 use crate::drive::DriveError;
 use crate::step::stopped;
@@ -19,7 +19,6 @@ pub fn ask<P: Port, S: Sink>(
     name: &[u8],
     shown: &mut S,
 ) -> Result<(Ready<P>, Result<Line, Line>), (Lost<P>, DriveError)>
-    requires takes { TakesAll P.takes }
     requires short { length name.now ≤ 4089 }
     requires serving { Serving 4104 (P.told ready).peer }
     ensures same { IfOk result (λ r. P.lent r.0 ≡ P.lent ready) }

@@ -9,7 +9,7 @@ ghost use Rattle.flash_plan.specs.Planning.{names_of};
 ghost use Rattle.flash_plan.specs.Targets.{candidates, probed};
 ghost use Rattle.host_driver.specs.Finding.{kind_questions, IsSought, Finds, Tell, task_probes, tasks_probes};
 ghost use Rattle.host_driver.specs.Questioning.{IsLearned, IsUnlearned};
-ghost use Rattle.host_driver.specs.Stepping.{TakesAll, Serving};
+ghost use Rattle.host_driver.specs.Stepping.{Serving};
 
 use crate::drive::DriveError;
 use crate::questions::ask_kind;
@@ -33,7 +33,6 @@ fn ask_name<P: Port, S: Sink>(
     parts: &mut Parts,
     shown: &mut S,
 ) -> Result<(Ready<P>, bool), (Lost<P>, DriveError)>
-    requires takes { TakesAll P.takes }
     requires sound { Sound (P.told ready).peer }
     requires serving { Serving 4104 (P.told ready).peer }
     ensures same { IfOk result (λ r. P.lent r.0 ≡ P.lent ready) }
@@ -74,7 +73,6 @@ fn ask_candidate<P: Port, S: Sink>(
     parts: &mut Parts,
     shown: &mut S,
 ) -> Result<(Ready<P>, bool), (Lost<P>, DriveError)>
-    requires takes { TakesAll P.takes }
     requires sound { Sound (P.told ready).peer }
     requires serving { Serving 4104 (P.told ready).peer }
     ensures same { IfOk result (λ r. P.lent r.0 ≡ P.lent ready) }
@@ -106,7 +104,6 @@ fn ask_candidates<P: Port, S: Sink>(
     parts: &mut Parts,
     shown: &mut S,
 ) -> Result<Ready<P>, (Lost<P>, DriveError)>
-    requires takes { TakesAll P.takes }
     requires sound { Sound (P.told ready).peer }
     requires serving { Serving 8208 (P.told ready).peer }
     ensures same { IfOk result (λ r. P.lent r ≡ P.lent ready) }
@@ -145,7 +142,6 @@ fn ask_aim<P: Port, S: Sink>(
     parts: &mut Parts,
     shown: &mut S,
 ) -> Result<Ready<P>, (Lost<P>, DriveError)>
-    requires takes { TakesAll P.takes }
     requires sound { Sound (P.told ready).peer }
     requires serving { Serving 8208 (P.told ready).peer }
     ensures same { IfOk result (λ r. P.lent r ≡ P.lent ready) }
@@ -178,7 +174,6 @@ fn ask_task<P: Port, S: Sink>(
     parts: &mut Parts,
     shown: &mut S,
 ) -> Result<Ready<P>, (Lost<P>, DriveError)>
-    requires takes { TakesAll P.takes }
     requires sound { Sound (P.told ready).peer }
     requires serving { Serving 8208 (P.told ready).peer }
     ensures same { IfOk result (λ r. P.lent r ≡ P.lent ready) }
@@ -219,7 +214,6 @@ pub(crate) fn ask_parts<P: Port, S: Sink>(
     listed: &[Name],
     shown: &mut S,
 ) -> Result<(Ready<P>, Parts), (Lost<P>, DriveError)>
-    requires takes { TakesAll P.takes }
     requires sound { Sound (P.told ready).peer }
     requires serving { Serving (8208 * length tasks.now) (P.told ready).peer }
     ensures same { IfOk result (λ r. P.lent r.0 ≡ P.lent ready) }

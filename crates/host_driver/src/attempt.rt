@@ -6,7 +6,7 @@ ghost use Rattle.fb_link.specs.Seen.{seen};
 ghost use Rattle.flash_plan.specs.Products.{OfFiles, IsWhole};
 ghost use Rattle.host_driver.specs.Jobs.{folder, outside, order};
 ghost use Rattle.host_driver.specs.Preparing.{IsPrepared, IsUnprepared};
-ghost use Rattle.host_driver.specs.Stepping.{TakesAll, Serving};
+ghost use Rattle.host_driver.specs.Stepping.{Serving};
 ghost use Rattle.host_driver.specs.Taking.{AreImages};
 ghost use Rattle.host_driver.specs.Trying.{IsUsable, IsTried, came, trial};
 
@@ -41,7 +41,6 @@ fn plan_for<P: Port, S: Sink>(
     options: &Options,
     out: &mut S,
 ) -> Result<(Ready<P>, Prepared), (Lost<P>, DriveError)>
-    requires takes { TakesAll P.takes }
     requires whole { IsWhole product.now }
     requires sound { Sound (P.told ready).peer }
     requires serving { Serving 4194304 (P.told ready).peer }
@@ -78,7 +77,6 @@ pub fn attempt<D: ProductDir, P: Port, S: Sink>(
     dir: &mut D,
     out: &mut S,
 ) -> Tried<P>
-    requires takes { TakesAll P.takes }
     requires aimed { IsTrue (P.told link).aimed }
     requires sound { Sound (P.told link).peer }
     requires entered { IsTrue (D.entered dir.old) }

@@ -4,7 +4,6 @@ ghost use Rattle.wire_told.specs.Answered.{Sound};
 ghost use Rattle.flash_plan.specs.Products.{OfFiles, IsWhole, product_of};
 ghost use Rattle.host_driver.specs.Driving.{Drives};
 ghost use Rattle.host_driver.specs.Jobs.{folder, outside, order, course};
-ghost use Rattle.host_driver.specs.Stepping.{TakesAll};
 ghost use Rattle.host_driver.specs.Trying.{may_pass, goes_on};
 
 use crate::attempt::{Tried, attempt};
@@ -43,7 +42,6 @@ pub fn flash<D: ProductDir, P: Port, S: Sink>(
     link: Lost<P>,
     out: &mut S,
 ) -> Drive<P>
-    requires takes { TakesAll P.takes }
     requires aimed { IsTrue (P.told link).aimed }
     requires sound { Sound (P.told link).peer }
     requires entered { IsTrue (D.entered dir.old) }

@@ -9,7 +9,7 @@ ghost use Rattle.wire_told.specs.Peers.{OfLink};
 ghost use Rattle.host_driver.specs.HeardLast.{HeardThen};
 ghost use Rattle.host_driver.specs.PutPieces.{HasBegun, HasEnded, HeardLoad, IsUnloaded};
 ghost use Rattle.host_driver.specs.PutPieces.{AreLoaded, ArePart, GoesOn, IsUnread};
-ghost use Rattle.host_driver.specs.Stepping.{TakesAll, NoFiles};
+ghost use Rattle.host_driver.specs.Stepping.{NoFiles};
 
 use crate::drive::DriveError;
 use crate::send_piece::send_piece;
@@ -30,7 +30,6 @@ pub(crate) fn announce<P: Port, S: Sink>(
     size: u32,
     shown: &mut S,
 ) -> Result<Sending<P>, (Lost<P>, DriveError)>
-    requires takes { TakesAll P.takes }
     requires free { Free (P.told ready).peer }
     requires fits { OfLink (λ w. size ≤ w.device.max) (P.told ready).peer }
     ensures left { IfOk result (λ s. s.left ≡ size) }
@@ -89,7 +88,6 @@ pub(crate) fn load_piece<P: Port, B: Bytes, S: Sink>(
     source: &mut B,
     shown: &mut S,
 ) -> Result<Ready<P>, (Lost<P>, DriveError)>
-    requires takes { TakesAll P.takes }
     requires free { Free (P.told ready).peer }
     requires fits { OfLink (λ w. part_len piece.now ≤ w.device.max) (P.told ready).peer }
     requires len { B.size source.old ≡ piece.now.kept.source_len }

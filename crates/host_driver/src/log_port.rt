@@ -80,8 +80,6 @@ impl<P: Port> Port for LogPort<'_, P> {
       faults = (P.told p.port).faults + p.refused;
     } };
 
-    ghost takes = { P.takes };
-
     fn aim(&mut self, alloc: Global, target: &Target<'_>) -> Result<(), AimError> {
         self.port.aim(alloc, target)
     }
@@ -113,6 +111,4 @@ impl<P: Port> Port for LogPort<'_, P> {
     fn hang_up(&mut self) {
         self.port.hang_up();
     }
-
-    ghost takes_first = { P.takes_first };
 }

@@ -14,7 +14,7 @@ ghost use Rattle.host_driver.specs.Jobs.{order};
 ghost use Rattle.host_driver.specs.Preparing.{decide_questions, IsDecided, part_questions, IsUnmade};
 ghost use Rattle.host_driver.specs.Preparing.{IsPrepared, IsUnprepared};
 ghost use Rattle.host_driver.specs.Questioning.{OfDevice, AreTraits, IsLearned, IsUnlearned};
-ghost use Rattle.host_driver.specs.Stepping.{TakesAll, Serving};
+ghost use Rattle.host_driver.specs.Stepping.{Serving};
 
 use crate::asking_parts::ask_parts;
 use crate::drive::DriveError;
@@ -59,7 +59,6 @@ fn decide<P: Port, S: Sink>(
     options: &Options,
     shown: &mut S,
 ) -> Result<(Ready<P>, Traits), (Lost<P>, DriveError)>
-    requires takes { TakesAll P.takes }
     requires sound { Sound (P.told ready).peer }
     requires serving { Serving (20520 + 4104 * length product.now.requirements) (P.told ready).peer }
     ensures same { IfOk result (λ r. P.lent r.0 ≡ P.lent ready) }
@@ -100,7 +99,6 @@ fn ask_answers<P: Port, S: Sink>(
     traits: Traits,
     shown: &mut S,
 ) -> Result<(Ready<P>, Answers), (Lost<P>, DriveError)>
-    requires takes { TakesAll P.takes }
     requires sound { Sound (P.told ready).peer }
     requires serving { Serving (8208 * length product.now.tasks) (P.told ready).peer }
     requires traits { OfDevice (AreTraits (list_any is_update product.now.tasks) traits) (P.told ready).peer }
@@ -178,7 +176,6 @@ pub fn prepare<P: Port, S: Sink>(
     options: &Options,
     shown: &mut S,
 ) -> Result<(Ready<P>, Prepared), (Lost<P>, DriveError)>
-    requires takes { TakesAll P.takes }
     requires whole { IsWhole product.now }
     requires sound { Sound (P.told ready).peer }
     requires serving { Serving 4194304 (P.told ready).peer }

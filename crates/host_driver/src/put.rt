@@ -6,7 +6,7 @@ ghost use Rattle.sparse_image.specs.Walks.{IsChecked};
 ghost use Rattle.wire_told.specs.Peers.{OfLink};
 ghost use Rattle.host_driver.specs.PutPieces.{IsUnread};
 ghost use Rattle.host_driver.specs.Puts.{HasPutAll, PutBreaks, image_cost};
-ghost use Rattle.host_driver.specs.Stepping.{TakesAll, Serving};
+ghost use Rattle.host_driver.specs.Stepping.{Serving};
 
 use crate::drive::DriveError;
 use crate::put_piece::put_piece;
@@ -29,7 +29,6 @@ pub fn put<P: Port, B: Bytes, S: Sink>(
     source: &mut B,
     shown: &mut S,
 ) -> Result<Ready<P>, (Lost<P>, DriveError)>
-    requires takes { TakesAll P.takes }
     requires large { 131072 ≤ most }
     requires serving { Serving (image_cost index.now) (P.told ready).peer }
     requires fits { OfLink (λ w. most ≤ w.device.max) (P.told ready).peer }

@@ -7,7 +7,7 @@ ghost use Rattle.sparse_image.specs.Walks.{IsChecked};
 ghost use Rattle.wire_told.specs.Peers.{OfLink};
 ghost use Rattle.host_driver.specs.PutPieces.{ArePart, IsUnread};
 ghost use Rattle.host_driver.specs.Puts.{HasFlashed, FlashFails, HasPut, PutFails, put_cost};
-ghost use Rattle.host_driver.specs.Stepping.{TakesAll, Serving};
+ghost use Rattle.host_driver.specs.Stepping.{Serving};
 
 use crate::drive::DriveError;
 use crate::load_piece::load_piece;
@@ -28,7 +28,6 @@ fn flash_loaded<P: Port, S: Sink>(
     name: &Name,
     shown: &mut S,
 ) -> Result<Ready<P>, (Lost<P>, DriveError)>
-    requires takes { TakesAll P.takes }
     requires serving { Serving 4104 (P.told ready).peer }
     ensures flashed { IfOk result (λ r. HasFlashed name.now
         (seen (P.told ready) (S.text shown.old)) (seen (P.told r) (S.text shown.new))) }
@@ -60,7 +59,6 @@ pub(crate) fn put_piece<P: Port, B: Bytes, S: Sink>(
     source: &mut B,
     shown: &mut S,
 ) -> Result<Ready<P>, (Lost<P>, DriveError)>
-    requires takes { TakesAll P.takes }
     requires serving { Serving (put_cost (part_len piece.now)) (P.told ready).peer }
     requires fits { OfLink (λ w. part_len piece.now ≤ w.device.max) (P.told ready).peer }
     requires len { B.size source.old ≡ piece.now.kept.source_len }

@@ -13,7 +13,7 @@ ghost use Rattle.host_driver.specs.AnswerText.{slots_read, slot_read, super_read
 ghost use Rattle.host_driver.specs.Questioning.{OfDevice, IsLearned, IsUnlearned, unread_stop, slot_questions};
 ghost use Rattle.host_driver.specs.Questioning.{super_questions, trait_questions, AreTraits};
 ghost use Rattle.host_driver.specs.SizeText.{download_size};
-ghost use Rattle.host_driver.specs.Stepping.{TakesAll, Serving};
+ghost use Rattle.host_driver.specs.Stepping.{Serving};
 
 use crate::ask::ask;
 use crate::drive::DriveError;
@@ -155,7 +155,6 @@ fn ask_slots<P: Port, S: Sink>(
     ready: Ready<P>,
     shown: &mut S,
 ) -> Result<(Ready<P>, bool), (Lost<P>, DriveError)>
-    requires takes { TakesAll P.takes }
     requires sound { Sound (P.told ready).peer }
     requires serving { Serving 4104 (P.told ready).peer }
     ensures same { IfOk result (λ r. P.lent r.0 ≡ P.lent ready) }
@@ -184,7 +183,6 @@ fn ask_active<P: Port, S: Sink>(
     ready: Ready<P>,
     shown: &mut S,
 ) -> Result<(Ready<P>, Slot), (Lost<P>, DriveError)>
-    requires takes { TakesAll P.takes }
     requires sound { Sound (P.told ready).peer }
     requires serving { Serving 4104 (P.told ready).peer }
     requires slotted { OfDevice (λ dev. IsTrue (has_slots dev)) (P.told ready).peer }
@@ -214,7 +212,6 @@ fn ask_slot<P: Port, S: Sink>(
     ready: Ready<P>,
     shown: &mut S,
 ) -> Result<(Ready<P>, Option<Slot>), (Lost<P>, DriveError)>
-    requires takes { TakesAll P.takes }
     requires sound { Sound (P.told ready).peer }
     requires serving { Serving 8208 (P.told ready).peer }
     ensures same { IfOk result (λ r. P.lent r.0 ≡ P.lent ready) }
@@ -246,7 +243,6 @@ fn ask_max<P: Port, S: Sink>(
     ready: Ready<P>,
     shown: &mut S,
 ) -> Result<(Ready<P>, u32), (Lost<P>, DriveError)>
-    requires takes { TakesAll P.takes }
     requires sound { Sound (P.told ready).peer }
     requires serving { Serving 4104 (P.told ready).peer }
     ensures large { IfOk result (λ r. 131072 ≤ r.1) }
@@ -276,7 +272,6 @@ fn ask_super<P: Port, S: Sink>(
     ready: Ready<P>,
     shown: &mut S,
 ) -> Result<(Ready<P>, Option<Name>), (Lost<P>, DriveError)>
-    requires takes { TakesAll P.takes }
     requires sound { Sound (P.told ready).peer }
     requires serving { Serving 4104 (P.told ready).peer }
     ensures same { IfOk result (λ r. P.lent r.0 ≡ P.lent ready) }
@@ -306,7 +301,6 @@ pub(crate) fn ask_kind<P: Port, S: Sink>(
     name: &Name,
     shown: &mut S,
 ) -> Result<(Ready<P>, Option<bool>), (Lost<P>, DriveError)>
-    requires takes { TakesAll P.takes }
     requires sound { Sound (P.told ready).peer }
     requires serving { Serving 4104 (P.told ready).peer }
     ensures same { IfOk result (λ r. P.lent r.0 ≡ P.lent ready) }
@@ -337,7 +331,6 @@ pub(crate) fn ask_value<P: Port, S: Sink>(
     name: &[u8],
     shown: &mut S,
 ) -> Result<(Ready<P>, Option<Line>), (Lost<P>, DriveError)>
-    requires takes { TakesAll P.takes }
     requires short { length name.now ≤ 4089 }
     requires serving { Serving 4104 (P.told ready).peer }
     ensures same { IfOk result (λ r. P.lent r.0 ≡ P.lent ready) }
@@ -363,7 +356,6 @@ fn ask_super_if<P: Port, S: Sink>(
     updates: bool,
     shown: &mut S,
 ) -> Result<(Ready<P>, Option<Name>), (Lost<P>, DriveError)>
-    requires takes { TakesAll P.takes }
     requires sound { Sound (P.told ready).peer }
     requires serving { Serving 4104 (P.told ready).peer }
     ensures same { IfOk result (λ r. P.lent r.0 ≡ P.lent ready) }
@@ -402,7 +394,6 @@ pub(crate) fn ask_traits<P: Port, S: Sink>(
     updates: bool,
     shown: &mut S,
 ) -> Result<(Ready<P>, Traits), (Lost<P>, DriveError)>
-    requires takes { TakesAll P.takes }
     requires sound { Sound (P.told ready).peer }
     requires serving { Serving 16416 (P.told ready).peer }
     ensures large { IfOk result (λ r. 131072 ≤ r.1.max) }

@@ -11,7 +11,7 @@ ghost use Rattle.host_driver.specs.Deciding.{line_question, line_questions, prod
 ghost use Rattle.host_driver.specs.Deciding.{judged, IsJudged, AreJudged, IsProduct, AreFor, IsChecked};
 ghost use Rattle.host_driver.specs.Deciding.{IsOfLine, IsListed};
 ghost use Rattle.host_driver.specs.Questioning.{OfDevice, IsLearned, IsUnlearned};
-ghost use Rattle.host_driver.specs.Stepping.{TakesAll, Serving};
+ghost use Rattle.host_driver.specs.Stepping.{Serving};
 
 use crate::drive::DriveError;
 use crate::questions::{ask_value, question};
@@ -73,7 +73,6 @@ fn check_line<P: Port, S: Sink>(
     product: &Option<Line>,
     shown: &mut S,
 ) -> Result<(Ready<P>, Option<Unmet>), (Lost<P>, DriveError)>
-    requires takes { TakesAll P.takes }
     requires serving { Serving 4104 (P.told ready).peer }
     requires product { OfDevice (IsProduct product.now requirement.now) (P.told ready).peer }
     ensures same { IfOk result (λ r. P.lent r.0 ≡ P.lent ready) }
@@ -106,7 +105,6 @@ fn check_lines<P: Port, S: Sink>(
     product: &Option<Line>,
     shown: &mut S,
 ) -> Result<(Ready<P>, Option<Unmet>), (Lost<P>, DriveError)>
-    requires takes { TakesAll P.takes }
     requires serving { Serving (4104 * length lines.now) (P.told ready).peer }
     requires product { OfDevice (AreFor product.now lines.now) (P.told ready).peer }
     ensures same { IfOk result (λ r. P.lent r.0 ≡ P.lent ready) }
@@ -149,7 +147,6 @@ fn ask_product<P: Port, S: Sink>(
     lines: &[Requirement],
     shown: &mut S,
 ) -> Result<(Ready<P>, Option<Line>), (Lost<P>, DriveError)>
-    requires takes { TakesAll P.takes }
     requires serving { Serving 4104 (P.told ready).peer }
     ensures same { IfOk result (λ r. P.lent r.0 ≡ P.lent ready) }
     ensures same_lost { IfErr result (λ e. P.lent e.0 ≡ P.lent ready) }
@@ -180,7 +177,6 @@ pub(crate) fn check<P: Port, S: Sink>(
     force: bool,
     shown: &mut S,
 ) -> Result<(Ready<P>, Option<Unmet>), (Lost<P>, DriveError)>
-    requires takes { TakesAll P.takes }
     requires serving { Serving (4104 + 4104 * length lines.now) (P.told ready).peer }
     ensures same { IfOk result (λ r. P.lent r.0 ≡ P.lent ready) }
     ensures same_lost { IfErr result (λ e. P.lent e.0 ≡ P.lent ready) }

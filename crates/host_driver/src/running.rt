@@ -11,7 +11,7 @@ ghost use Rattle.wire_told.specs.Ports.{Drops};
 ghost use Rattle.host_driver.specs.Beginning.{IsBegun, IsUnbegun};
 ghost use Rattle.host_driver.specs.Printing.{image_long, step_line};
 ghost use Rattle.host_driver.specs.Running.{IsOf, IsFor, IsDoneAll, IsBrokenAt, IsUnreadNext, plan_cost, running};
-ghost use Rattle.host_driver.specs.Stepping.{TakesAll, Serving};
+ghost use Rattle.host_driver.specs.Stepping.{Serving};
 ghost use Rattle.flash_plan.specs.declared.plan.Order.TheVariants.{Boot};
 ghost use Rattle.host_driver.specs.Taking.{AreImages, HasOwn, is_renewing, supply};
 
@@ -119,7 +119,6 @@ pub fn run<D: ProductDir, P: Port, S: Sink>(
     dir: &mut D,
     shown: &mut S,
 ) -> Ran<P>
-    requires takes { TakesAll P.takes }
     requires large { 131072 ≤ most }
     requires aimed { IsTrue (P.told ready).aimed }
     requires entered { IsTrue (D.entered dir.old) }

@@ -9,7 +9,7 @@ ghost use Rattle.dev_model.specs.declared.step.Step.{Step};
 ghost use Rattle.fb_link.specs.Seen.{seen};
 ghost use Rattle.flash_plan.specs.Plans.{step_of};
 ghost use Rattle.host_driver.specs.Commands.{takes_step, command_for};
-ghost use Rattle.host_driver.specs.Stepping.{TakesAll, Serving, IsCommandAt, IsStepped, IsStopped, stop_of};
+ghost use Rattle.host_driver.specs.Stepping.{Serving, IsCommandAt, IsStepped, IsStopped, stop_of};
 ghost use Rattle.host_driver.specs.Stepping.{NoFiles, IsAlone};
 ghost use Rattle.host_driver.specs.Wires.{command_wire};
 
@@ -75,7 +75,6 @@ pub fn take<P: Port, S: Sink>(
     command: &Command<'_>,
     shown: &mut S,
 ) -> Result<Ready<P>, (Lost<P>, DriveError)>
-    requires takes { TakesAll P.takes }
     requires step { IsTrue (takes_step (command_value command.now)) }
     requires serving { Serving 4104 (P.told ready).peer }
     ensures same { IfOk result (λ r. P.lent r ≡ P.lent ready) }
@@ -123,7 +122,6 @@ pub fn take_alone<P: Port, S: Sink>(
     order: &Order,
     shown: &mut S,
 ) -> Result<Ready<P>, (Lost<P>, DriveError)>
-    requires takes { TakesAll P.takes }
     requires alone { IsTrue (is_some (command_for order.now)) }
     requires serving { Serving 4104 (P.told ready).peer }
     ensures same { IfOk result (λ r. P.lent r ≡ P.lent ready) }

@@ -5,7 +5,7 @@ ghost use Rattle.fb_link.specs.Seen.{seen};
 ghost use Rattle.flash_plan.specs.declared.plan.Order.TheVariants.{Put};
 ghost use Rattle.flash_plan.specs.Products.{OfFiles, IsWhole, image_file, file_of_action};
 ghost use Rattle.wire_told.specs.Peers.{OfLink};
-ghost use Rattle.host_driver.specs.Stepping.{TakesAll, Serving};
+ghost use Rattle.host_driver.specs.Stepping.{Serving};
 ghost use Rattle.host_driver.specs.Taking.{AreImages, HasOwn, IsNamed, IsTaken, IsUntaken, IsUnreadAt};
 ghost use Rattle.host_driver.specs.Taking.{order_cost, supply, taking};
 
@@ -64,7 +64,6 @@ fn put_order<D: ProductDir, P: Port, S: Sink>(
     dir: &mut D,
     shown: &mut S,
 ) -> Result<Ready<P>, (Lost<P>, DriveError)>
-    requires takes { TakesAll P.takes }
     requires large { 131072 ≤ most }
     requires entered { IsTrue (D.entered dir.old) }
     requires whole { IsWhole product.now }
@@ -109,7 +108,6 @@ pub fn take_order<D: ProductDir, P: Port, S: Sink>(
     dir: &mut D,
     shown: &mut S,
 ) -> Result<Ready<P>, (Lost<P>, DriveError)>
-    requires takes { TakesAll P.takes }
     requires large { 131072 ≤ most }
     requires entered { IsTrue (D.entered dir.old) }
     requires whole { IsWhole product.now }

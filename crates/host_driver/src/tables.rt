@@ -11,7 +11,7 @@ ghost use Rattle.wire_told.specs.Peers.{OfLink};
 ghost use Rattle.host_driver.specs.HeardLast.{HeardThen};
 ghost use Rattle.host_driver.specs.LinkOuts.{IsSending, HasGivenUp, data_by};
 ghost use Rattle.host_driver.specs.PutPieces.{AreSent, AreLoaded, GoesOn, IsUnloaded};
-ghost use Rattle.host_driver.specs.Stepping.{TakesAll, Serving, NoFiles, IsStepped, IsStopped};
+ghost use Rattle.host_driver.specs.Stepping.{Serving, NoFiles, IsStepped, IsStopped};
 ghost use Rattle.host_driver.specs.Taking.{tables_cost, IsTablesWire};
 
 use crate::before::Before;
@@ -83,7 +83,6 @@ fn load_bytes<P: Port, S: Sink>(
     bytes: &[u8],
     shown: &mut S,
 ) -> Result<Ready<P>, (Lost<P>, DriveError)>
-    requires takes { TakesAll P.takes }
     requires few { length bytes.now ≤ 131072 }
     requires free { Free (P.told ready).peer }
     requires fits { OfLink (λ w. length bytes.now ≤ w.device.max) (P.told ready).peer }
@@ -120,7 +119,6 @@ pub(crate) fn take_tables<P: Port, S: Sink>(
     image: &[u8],
     shown: &mut S,
 ) -> Result<Ready<P>, (Lost<P>, DriveError)>
-    requires takes { TakesAll P.takes }
     requires tables { IsTrue (holds_tables image.now) }
     requires few { length image.now ≤ 131072 }
     requires serving { Serving tables_cost (P.told ready).peer }

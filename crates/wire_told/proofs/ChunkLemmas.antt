@@ -8,12 +8,11 @@ use Rattle.fb_message.specs.declared.reply.Reply.{Reply}
 use Rattle.fb_message.specs.ReplyText.{reply_fits}
 use Rattle.wire_told.specs.Peers.{Peer, Apart, Joined}
 use Rattle.wire_model.specs.Wire.{Wire}
-use Rattle.wire_told.specs.Turns.{CommandTest}
 use Rattle.wire_told.specs.Told.{GoesBy, Sent, LeftBy, Heard, HungUp, OneFrame, IsFront, MaySend}
 use Rattle.wire_told.specs.Answered.{ends_well, reply_frames, IsListening, Listening, IsBetween, Between, IsSending, Downloading, got_of, IsWritten, Wrote, Loads}
 use Rattle.wire_told.proofs.Lifted.{of-of, of-on, with-on}
 use Rattle.wire_told.proofs.ToldLemmas.{head-front, payload-front}
-use Rattle.wire_told.proofs.DataLemmas.{data-frame, data-passes, data-left}
+use Rattle.wire_told.proofs.DataLemmas.{data-frame, data-left}
 use Rattle.wire_told.proofs.StateLemmas.{due-of, due-receiving, written, sending-less, loads, sent-okay, finished}
 
 chunk-frame : (left : ℕ) (p : List ℕ) (w : Wire) → IsSending left w → 0 < length p → length p ≤ left → length p ≤ 65536 → OneFrame p (frame p) w
@@ -21,22 +20,22 @@ chunk-frame left p w s some h small =
     let d = due-of left w (omega arith) s in
     data-frame 0 d.count d.got p w (due-receiving left w s d) some (omega (arith, h, d.all)) small
 
-chunk-head : (test : CommandTest) (left : ℕ) (p head_bytes : List ℕ) → 0 < length p → length p ≤ left → length p ≤ 65536 → head_bytes ≡ to_be_bytes w64 (length p) → (w : Wire) → IsSending left w → IsFront test head_bytes w
-chunk-head test left p head_bytes some h small e w s =
+chunk-head : (left : ℕ) (p head_bytes : List ℕ) → 0 < length p → length p ≤ left → length p ≤ 65536 → head_bytes ≡ to_be_bytes w64 (length p) → (w : Wire) → IsSending left w → IsFront head_bytes w
+chunk-head left p head_bytes some h small e w s =
     let d = due-of left w (omega arith) s in
-    head-front test p head_bytes e w (data-passes test 0 d.count d.got p w (due-receiving left w s d)) (chunk-frame left p w s some h small)
+    head-front p head_bytes e w (chunk-frame left p w s some h small)
 
-pub MaySend-chunk-head : (test : CommandTest) (left : ℕ) (p head_bytes : List ℕ) (a : Option Peer) → Downloading left a → 0 < length p → length p ≤ left → length p ≤ 65536 → head_bytes ≡ to_be_bytes w64 (length p) → MaySend test a head_bytes
-MaySend-chunk-head test left p head_bytes a s some h small e = of-of (IsSending left) (IsFront test head_bytes) (chunk-head test left p head_bytes some h small e) a s
+pub MaySend-chunk-head : (left : ℕ) (p head_bytes : List ℕ) (a : Option Peer) → Downloading left a → 0 < length p → length p ≤ left → length p ≤ 65536 → head_bytes ≡ to_be_bytes w64 (length p) → MaySend a head_bytes
+MaySend-chunk-head left p head_bytes a s some h small e = of-of (IsSending left) (IsFront head_bytes) (chunk-head left p head_bytes some h small e) a s
 
-chunk-rest : (test : CommandTest) (broke : Type 0) (left : ℕ) (p head_bytes : List ℕ) → 0 < length p → length p ≤ left → length p ≤ 65536 → head_bytes ≡ to_be_bytes w64 (length p) → (w v : Wire) → IsSending left w → GoesBy broke w head_bytes v → IsFront test p v
-chunk-rest test broke left p head_bytes some h small e w v s g =
+chunk-rest : (broke : Type 0) (left : ℕ) (p head_bytes : List ℕ) → 0 < length p → length p ≤ left → length p ≤ 65536 → head_bytes ≡ to_be_bytes w64 (length p) → (w v : Wire) → IsSending left w → GoesBy broke w head_bytes v → IsFront p v
+chunk-rest broke left p head_bytes some h small e w v s g =
     let d = due-of left w (omega arith) s in
-    payload-front test broke p head_bytes e w v (data-passes test 0 d.count d.got p w (due-receiving left w s d)) (chunk-frame left p w s some h small) g
+    payload-front broke p head_bytes e w v (chunk-frame left p w s some h small) g
 
-pub MaySend-chunk : (test : CommandTest) (k l left : ℕ) (p head_bytes : List ℕ) (a b : Option Peer) → Downloading left a → 0 < length p → length p ≤ left → length p ≤ 65536 → head_bytes ≡ to_be_bytes w64 (length p) → Sent k l a b head_bytes → MaySend test b p
-MaySend-chunk test k l left p head_bytes a b s some h small e g =
-    of-on (IsSending left) (λ w v. GoesBy (Rose k l) w head_bytes v) (IsFront test p) (λ w v q r. chunk-rest test (Rose k l) left p head_bytes some h small e w v q r) a b s g
+pub MaySend-chunk : (k l left : ℕ) (p head_bytes : List ℕ) (a b : Option Peer) → Downloading left a → 0 < length p → length p ≤ left → length p ≤ 65536 → head_bytes ≡ to_be_bytes w64 (length p) → Sent k l a b head_bytes → MaySend b p
+MaySend-chunk k l left p head_bytes a b s some h small e g =
+    of-on (IsSending left) (λ w v. GoesBy (Rose k l) w head_bytes v) (IsFront p) (λ w v q r. chunk-rest (Rose k l) left p head_bytes some h small e w v q r) a b s g
 
 pub Wrote-chunk : (k l left : ℕ) (p : List ℕ) (a b : Option Peer) → Downloading left a → 0 < length p → length p ≤ left → length p ≤ 65536 → Sent k l a b (frame p) → Wrote a b p
 Wrote-chunk k l left p a b s some h small g =

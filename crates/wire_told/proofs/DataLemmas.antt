@@ -1,13 +1,13 @@
 -- A download's data, in frames.
 use Rattle.std.proofs.Common.{◌≡◌, ◌≢◌, ◌⊎◌, inl, inr, ℕ, ◌+◌, ◌<◌, ◌≤◌, true, false, cond, List, [], ◌++◌, length, take, drop, Some, refl, sym, ap, ◌∙◌, subst, arith, length-append, length-drop}
-use Rattle.std.specs.Prelude.{codes, nat_eq, nat_lt, IsTrue}
+use Rattle.std.specs.Prelude.{codes, nat_eq, nat_lt}
 use Rattle.std.proofs.lemmas.Bool.Decides.{nat_tests}
 use Rattle.std.proofs.lemmas.List.{take-append-drop, take_all}
 use Rattle.wire_model.proofs.InParts.{told}
 use Rattle.dev_model.specs.declared.device.Dev.{Dev}
 use Rattle.fb_frame.specs.Framing.{frame}
 use Rattle.wire_model.specs.Wire.{Wire, Shake, Command, Data, received, paid}
-use Rattle.wire_told.specs.Turns.{room, CommandTest}
+use Rattle.wire_told.specs.Turns.{room}
 use Rattle.wire_told.specs.Told.{GoesBy, OneFrame, IsReceiving, IsFilled, IsLoaded, IsLeft}
 use Rattle.wire_told.specs.Answered.{got_by, got_of}
 use Rattle.wire_told.proofs.OneFrames.{goes-same, length-frame, goes-whole, paid_by, IsBroken}
@@ -30,10 +30,6 @@ data-frame spare count got p w i some h s = record {
   small = s;
   bounded = omega (arith, i.bounded, length-frame p);
 }
-
--- it is no command
-pub data-passes : (test : CommandTest) (spare count : ℕ) (got p : List ℕ) (w : Wire) → IsReceiving spare count got w → w.phase ≡ Command → IsTrue (test w.loaded p)
-data-passes test spare count got p w i e = absurd (command-not-data count got (sym e ∙ i.receiving))
 
 -- a whole frame of data is taken as it is: nothing breaks
 pub taken : (broke : Type 0) (spare count : ℕ) (got p : List ℕ) (w v : Wire) → IsReceiving spare count got w → 0 < length p → length got + length p ≤ count → length p ≤ 65536 → GoesBy broke w (frame p) v → v ≡ record (received count (got ++ p) w) { rest = []; taken = w.taken + length (frame p) }

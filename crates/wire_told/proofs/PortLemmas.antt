@@ -9,7 +9,6 @@ use Rattle.fb_frame.specs.Framing.{frame}
 use Rattle.fb_message.specs.declared.reply.Reply.{Reply}
 use Rattle.fb_message.specs.ReplyText.{reply_bytes, reply_of}
 use Rattle.wire_told.specs.Places.{Place, Stands, KeepsOthers, Appended}
-use Rattle.wire_told.specs.Turns.{CommandTest}
 use Rattle.wire_told.specs.Told.{MaySend, Gives, IsHead}
 use Rattle.wire_told.specs.Answered.{Next}
 use Rattle.wire_told.specs.Ports.{PortTold, Kept, AppendedFront, Sends, SendFails, Hears, HearsHead, HearsReply, Misses, Ends, Drops}
@@ -62,10 +61,10 @@ Front-behind a b c x y f g = record {
 }
 
 -- Sends.
-pub Sends-nothing : (test : CommandTest) (a : PortTold) (bytes : List ℕ) → IsTrue a.up → MaySend test a.peer bytes → Sends a a []
-Sends-nothing test a bytes up m = record {
+pub Sends-nothing : (a : PortTold) (bytes : List ℕ) → IsTrue a.up → MaySend a.peer bytes → Sends a a []
+Sends-nothing a bytes up m = record {
   up = up;
-  sent = Sent-nothing test a.faults a.peer bytes m;
+  sent = Sent-nothing a.faults a.peer bytes m;
   kept = Kept-same a;
   heard = refl;
   log = Appended-nothing a.log;

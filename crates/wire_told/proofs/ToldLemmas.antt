@@ -10,13 +10,13 @@ use Rattle.fb_frame.specs.Framing.{head, frame}
 use Rattle.fb_frame.specs.Greeting.{handshake}
 use Rattle.dev_model.specs.declared.device.Dev.{Dev}
 use Rattle.fb_frame.specs.Causes.{Rose}
-use Rattle.wire_told.specs.Peers.{Peer, Apart, Joined, OfLink, OnLink, OffLink}
-use Rattle.wire_model.specs.Wire.{Wire, Shake, Command, joined, fresh}
-use Rattle.wire_told.specs.Turns.{room, CommandTest, IsTurn, IsSettled}
-use Rattle.wire_told.specs.Told.{GoesBy, Sent, IsLeft, LeftBy, Heard, IsHead, HeardHead, HeardReply, HungUp, InTurn, MayHear, AtEnd, OneFrame, OneShake, OnePassed, OneWhole, IsFront, MaySend, Passes, IsIdle, Idle, Begun, Gives}
+use Rattle.wire_told.specs.Peers.{Peer, Apart, Joined, OnLink, OffLink}
+use Rattle.wire_model.specs.Wire.{Wire, Shake, Command, fresh}
+use Rattle.wire_told.specs.Turns.{room, IsTurn, IsSettled}
+use Rattle.wire_told.specs.Told.{GoesBy, Sent, IsLeft, LeftBy, Heard, IsHead, HeardHead, HeardReply, HungUp, InTurn, MayHear, AtEnd, OneFrame, OneShake, SomeFrame, OneWhole, IsFront, MaySend, IsIdle, Idle, Begun, Gives}
 use Rattle.wire_told.proofs.Lifted.{of-of, of-none, of-both, of-stays, of-on, on-then, on-off, on-hung, kept-hung}
 use Rattle.wire_told.proofs.Going.{goes-append, goes-weaker, goes-nothing}
-use Rattle.wire_told.proofs.OneFrames.{length-frame, goes-inside, goes-joined, frame-settled}
+use Rattle.wire_told.proofs.OneFrames.{length-frame, goes-inside, frame-settled}
 use Rattle.wire_told.proofs.OneShakes.{shake-part, shake-settled, fresh-shake}
 use Rattle.wire_told.proofs.Turned.{front-turn}
 
@@ -33,51 +33,46 @@ Sent-append k l m i j a b c x y f g =
     (λ w u v p q. goes-append (Rose k m) w u v x y (goes-weaker (Rose k l) (Rose k m) (rose-from k l m i j) w u x p) (goes-weaker (Rose l m) (Rose k m) (rose-to k l m i j) u v y q))
     a b c f g
 
-whole-settled : (test : CommandTest) (bytes : List ℕ) (w : Wire) → OneWhole test bytes w → IsSettled w
-whole-settled test bytes w (inl o) = frame-settled o.payload bytes w o.one
-whole-settled test bytes w (inr o) = shake-settled bytes w o
+whole-settled : (bytes : List ℕ) (w : Wire) → OneWhole bytes w → IsSettled w
+whole-settled bytes w (inl o) = frame-settled o.payload bytes w o.one
+whole-settled bytes w (inr o) = shake-settled bytes w o
 
 -- before the first send
-pub Sent-nothing : (test : CommandTest) (k : ℕ) (a : Option Peer) (bytes : List ℕ) → MaySend test a bytes → Sent k k a a []
-Sent-nothing test k a bytes m =
-    of-stays (IsFront test bytes) (λ w v. GoesBy (Rose k k) w [] v) (λ w o. goes-nothing (Rose k k) w (whole-settled test (bytes ++ o.more) w o.one)) a m
+pub Sent-nothing : (k : ℕ) (a : Option Peer) (bytes : List ℕ) → MaySend a bytes → Sent k k a a []
+Sent-nothing k a bytes m =
+    of-stays (IsFront bytes) (λ w v. GoesBy (Rose k k) w [] v) (λ w o. goes-nothing (Rose k k) w (whole-settled (bytes ++ o.more) w o.one)) a m
 
-passed-next : (test : CommandTest) (broke : Type 0) (x y : List ℕ) (w v : Wire) → OnePassed test (x ++ y) w → 0 < length y → GoesBy broke w x v → OnePassed test y v
-passed-next test broke x y w v o due g =
-    let e : v ≡ joined x w = goes-joined broke o.payload x y w v o.one due g in
-    record {
-      payload = o.payload;
-      one = goes-inside broke o.payload x y w v o.one due g;
-      passes = subst (λ (u : Wire). u.phase ≡ Command → IsTrue (test u.loaded o.payload)) (sym e) o.passes;
-    }
+frame-next : (broke : Type 0) (x y : List ℕ) (w v : Wire) → SomeFrame (x ++ y) w → 0 < length y → GoesBy broke w x v → SomeFrame y v
+frame-next broke x y w v o due g =
+    record { payload = o.payload; one = goes-inside broke o.payload x y w v o.one due g }
 
-whole-next : (test : CommandTest) (broke : Type 0) (x y : List ℕ) (w v : Wire) → OneWhole test (x ++ y) w → 0 < length y → GoesBy broke w x v → OneWhole test y v
-whole-next test broke x y w v (inl o) due g = inl (passed-next test broke x y w v o due g)
-whole-next test broke x y w v (inr o) due g = inr (shake-part broke x y w v o due g)
+whole-next : (broke : Type 0) (x y : List ℕ) (w v : Wire) → OneWhole (x ++ y) w → 0 < length y → GoesBy broke w x v → OneWhole y v
+whole-next broke x y w v (inl o) due g = inl (frame-next broke x y w v o due g)
+whole-next broke x y w v (inr o) due g = inr (shake-part broke x y w v o due g)
 
 both-parts : (bytes more : List ℕ) (n : ℕ) → bytes ++ more ≡ take n bytes ++ (drop n bytes ++ more)
 both-parts bytes more n = ap (λ b. b ++ more) (sym (take-append-drop n bytes)) ∙ append_assoc (take n bytes) (drop n bytes) more
 
-front-next : (test : CommandTest) (broke : Type 0) (bytes : List ℕ) (n : ℕ) → n < length bytes → (w v : Wire) → IsFront test bytes w → GoesBy broke w (take n bytes) v → IsFront test (drop n bytes) v
-front-next test broke bytes n h w v m g = record {
+front-next : (broke : Type 0) (bytes : List ℕ) (n : ℕ) → n < length bytes → (w v : Wire) → IsFront bytes w → GoesBy broke w (take n bytes) v → IsFront (drop n bytes) v
+front-next broke bytes n h w v m g = record {
   more = m.more;
-  one = whole-next test broke (take n bytes) (drop n bytes ++ m.more) w v (subst (λ b. OneWhole test b w) (both-parts bytes m.more n) m.one) (omega (arith, h, length-drop n bytes, length-append (drop n bytes) m.more)) g;
+  one = whole-next broke (take n bytes) (drop n bytes ++ m.more) w v (subst (λ b. OneWhole b w) (both-parts bytes m.more n) m.one) (omega (arith, h, length-drop n bytes, length-append (drop n bytes) m.more)) g;
 }
 
 -- after a send of a first part the rest may be sent
-pub MaySend-next : (test : CommandTest) (k l : ℕ) (a b : Option Peer) (bytes : List ℕ) (n : ℕ) → MaySend test a bytes → n < length bytes → Sent k l a b (take n bytes) → MaySend test b (drop n bytes)
-MaySend-next test k l a b bytes n m h g =
-    of-on (IsFront test bytes) (λ w v. GoesBy (Rose k l) w (take n bytes) v) (IsFront test (drop n bytes)) (front-next test (Rose k l) bytes n h) a b m g
+pub MaySend-next : (k l : ℕ) (a b : Option Peer) (bytes : List ℕ) (n : ℕ) → MaySend a bytes → n < length bytes → Sent k l a b (take n bytes) → MaySend b (drop n bytes)
+MaySend-next k l a b bytes n m h g =
+    of-on (IsFront bytes) (λ w v. GoesBy (Rose k l) w (take n bytes) v) (IsFront (drop n bytes)) (front-next (Rose k l) bytes n h) a b m g
 
 -- what a host keeps is the condition of `send`
-pub InTurn-from : (test : CommandTest) (a : Option Peer) (bytes : List ℕ) → MaySend test a bytes → InTurn test a bytes
-InTurn-from test a bytes m = of-of (IsFront test bytes) (IsTurn test bytes) (front-turn test bytes) a m
+pub InTurn-from : (a : Option Peer) (bytes : List ℕ) → MaySend a bytes → InTurn a bytes
+InTurn-from a bytes m = of-of (IsFront bytes) (IsTurn bytes) (front-turn bytes) a m
 
 -- also for a rest as a piece of the whole list
-pub InTurn-rest : (test : CommandTest) (a : Option Peer) (bytes : List ℕ) (at len : ℕ) → at < length bytes → len ≡ length bytes - at → (at < length bytes → MaySend test a (drop at bytes)) → InTurn test a (take len (drop at bytes))
-InTurn-rest test a bytes at len h e m =
+pub InTurn-rest : (a : Option Peer) (bytes : List ℕ) (at len : ℕ) → at < length bytes → len ≡ length bytes - at → (at < length bytes → MaySend a (drop at bytes)) → InTurn a (take len (drop at bytes))
+InTurn-rest a bytes at len h e m =
     let all : take len (drop at bytes) ≡ drop at bytes = take_all len (drop at bytes) (omega (arith, e, length-drop at bytes)) in
-    subst (InTurn test a) (sym all) (InTurn-from test a (drop at bytes) (m h))
+    subst (InTurn a) (sym all) (InTurn-from a (drop at bytes) (m h))
 
 take-short : (n len : ℕ) (xs : List ℕ) → n ≤ len → take n (take len xs) ≡ take n xs
 take-short n len xs h = take-take n len xs h
@@ -88,10 +83,10 @@ Sent-more k l m i j a b c bytes at n len h f g =
     subst (Sent k m a c) (sym (take-add at n bytes))
     (Sent-append k l m i j a b c (take at bytes) (take n (drop at bytes)) f (subst (Sent l m b c) (take-short n len (drop at bytes) h) g))
 
-pub MaySend-more : (test : CommandTest) (k l : ℕ) (a b : Option Peer) (bytes : List ℕ) (at n len : ℕ) → n ≤ len → MaySend test a (drop at bytes) → at + n < length bytes → Sent k l a b (take n (take len (drop at bytes))) → MaySend test b (drop (at + n) bytes)
-MaySend-more test k l a b bytes at n len h m more g =
-    subst (MaySend test b) (drop-drop n at bytes)
-    (MaySend-next test k l a b (drop at bytes) n m (omega (arith, length-drop at bytes)) (subst (Sent k l a b) (take-short n len (drop at bytes) h) g))
+pub MaySend-more : (k l : ℕ) (a b : Option Peer) (bytes : List ℕ) (at n len : ℕ) → n ≤ len → MaySend a (drop at bytes) → at + n < length bytes → Sent k l a b (take n (take len (drop at bytes))) → MaySend b (drop (at + n) bytes)
+MaySend-more k l a b bytes at n len h m more g =
+    subst (MaySend b) (drop-drop n at bytes)
+    (MaySend-next k l a b (drop at bytes) n m (omega (arith, length-drop at bytes)) (subst (Sent k l a b) (take-short n len (drop at bytes) h) g))
 
 left-more : (k l m : ℕ) → k ≤ l → l ≤ m → (bytes : List ℕ) (at len : ℕ) → at ≤ length bytes → (w u : Wire) (dev : Dev) → GoesBy (Rose k l) w (take at bytes) u → IsLeft (Rose l m) (take len (drop at bytes)) u dev → IsLeft (Rose k m) bytes w dev
 left-more k l m i j bytes at len h w u dev g r =
@@ -208,35 +203,28 @@ idle-frame spare payload w i some h s = record {
 }
 
 -- a head is what is to come of a frame, and then its payload is
-pub head-front : (test : CommandTest) (payload head_bytes : List ℕ) → head_bytes ≡ head (length payload) → (w : Wire) → (w.phase ≡ Command → IsTrue (test w.loaded payload)) → OneFrame payload (frame payload) w → IsFront test head_bytes w
-head-front test payload head_bytes e w t o = record {
+pub head-front : (payload head_bytes : List ℕ) → head_bytes ≡ head (length payload) → (w : Wire) → OneFrame payload (frame payload) w → IsFront head_bytes w
+head-front payload head_bytes e w o = record {
   more = payload;
-  one = inl (record { payload = payload; one = subst (λ t. OneFrame payload (t ++ payload) w) (sym e) o; passes = t });
+  one = inl (record { payload = payload; one = subst (λ t. OneFrame payload (t ++ payload) w) (sym e) o });
 }
 
-pub payload-front : (test : CommandTest) (broke : Type 0) (payload head_bytes : List ℕ) → head_bytes ≡ head (length payload) → (w v : Wire) → (w.phase ≡ Command → IsTrue (test w.loaded payload)) → OneFrame payload (frame payload) w → GoesBy broke w head_bytes v → IsFront test payload v
-payload-front test broke payload head_bytes e w v t o g = record {
+pub payload-front : (broke : Type 0) (payload head_bytes : List ℕ) → head_bytes ≡ head (length payload) → (w v : Wire) → OneFrame payload (frame payload) w → GoesBy broke w head_bytes v → IsFront payload v
+payload-front broke payload head_bytes e w v o g = record {
   more = [];
-  one = inl (subst (λ b. OnePassed test b v) (sym (append-nil payload))
-      (passed-next test broke head_bytes payload w v
-      (record { payload = payload; one = subst (λ t. OneFrame payload (t ++ payload) w) (sym e) o; passes = t }) o.some g));
+  one = inl (subst (λ b. SomeFrame b v) (sym (append-nil payload))
+      (frame-next broke head_bytes payload w v
+      (record { payload = payload; one = subst (λ t. OneFrame payload (t ++ payload) w) (sym e) o }) o.some g));
 }
 
--- A command is awaited, and it passes the test.
-abbrev IsReady : CommandTest → ℕ → List ℕ → Wire → Type 0
-IsReady test spare payload w = IsIdle spare w × IsTrue (test w.loaded payload)
+pub MaySend-head : (spare : ℕ) (a : Option Peer) (payload head_bytes : List ℕ) → Idle spare a → 0 < length payload → length payload ≤ 4096 → 8 + length payload ≤ spare → head_bytes ≡ to_be_bytes w64 (length payload) → MaySend a head_bytes
+MaySend-head spare a payload head_bytes i some h s e =
+    of-of (IsIdle spare) (IsFront head_bytes) (λ w p. head-front payload head_bytes e w (idle-frame spare payload w p some h s)) a i
 
-ready : (test : CommandTest) (spare : ℕ) (payload : List ℕ) (a : Option Peer) → Idle spare a → Passes test a payload → OfLink (IsReady test spare payload) a
-ready test spare payload a i t = of-both (IsIdle spare) (λ w. IsTrue (test w.loaded payload)) (IsReady test spare payload) (λ w x y. (x, y)) a i t
-
-pub MaySend-head : (test : CommandTest) (spare : ℕ) (a : Option Peer) (payload head_bytes : List ℕ) → Idle spare a → Passes test a payload → 0 < length payload → length payload ≤ 4096 → 8 + length payload ≤ spare → head_bytes ≡ to_be_bytes w64 (length payload) → MaySend test a head_bytes
-MaySend-head test spare a payload head_bytes i t some h s e =
-    of-of (IsReady test spare payload) (IsFront test head_bytes) (λ w p. head-front test payload head_bytes e w (λ c. p.1) (idle-frame spare payload w p.0 some h s)) a (ready test spare payload a i t)
-
-pub MaySend-payload : (test : CommandTest) (k l spare : ℕ) (a b : Option Peer) (payload head_bytes : List ℕ) → Idle spare a → Passes test a payload → 0 < length payload → length payload ≤ 4096 → 8 + length payload ≤ spare → head_bytes ≡ to_be_bytes w64 (length payload) → Sent k l a b head_bytes → MaySend test b payload
-MaySend-payload test k l spare a b payload head_bytes i t some h s e g =
-    of-on (IsReady test spare payload) (λ w v. GoesBy (Rose k l) w head_bytes v) (IsFront test payload)
-    (λ w v p q. payload-front test (Rose k l) payload head_bytes e w v (λ c. p.1) (idle-frame spare payload w p.0 some h s) q) a b (ready test spare payload a i t) g
+pub MaySend-payload : (k l spare : ℕ) (a b : Option Peer) (payload head_bytes : List ℕ) → Idle spare a → 0 < length payload → length payload ≤ 4096 → 8 + length payload ≤ spare → head_bytes ≡ to_be_bytes w64 (length payload) → Sent k l a b head_bytes → MaySend b payload
+MaySend-payload k l spare a b payload head_bytes i some h s e g =
+    of-on (IsIdle spare) (λ w v. GoesBy (Rose k l) w head_bytes v) (IsFront payload)
+    (λ w v p q. payload-front (Rose k l) payload head_bytes e w v (idle-frame spare payload w p some h s) q) a b i g
 
 -- where the head failed, and where the payload did
 left-head : (broke : Type 0) (x y : List ℕ) (w : Wire) (dev : Dev) → IsLeft broke x w dev → IsLeft broke (x ++ y) w dev
@@ -321,10 +309,10 @@ LeftBy-heard k l m i j a b c x g h =
     on-hung (λ w v. GoesBy (Rose k l) w x v) (IsLeft (Rose k m) x) (left-whole k l m i j x) a b c g h
 
 -- The handshake.
-pub MaySend-greeting : (test : CommandTest) (a : Option Peer) (bytes : List ℕ) → Begun a → bytes ≡ handshake 1 → MaySend test a bytes
-MaySend-greeting test a bytes b e = of-of (λ w. w ≡ fresh w.device) (IsFront test bytes) shaken a b
+pub MaySend-greeting : (a : Option Peer) (bytes : List ℕ) → Begun a → bytes ≡ handshake 1 → MaySend a bytes
+MaySend-greeting a bytes b e = of-of (λ w. w ≡ fresh w.device) (IsFront bytes) shaken a b
   where
-    shaken : (w : Wire) → w ≡ fresh w.device → IsFront test bytes w
+    shaken : (w : Wire) → w ≡ fresh w.device → IsFront bytes w
     shaken w f = record {
       more = [];
       one = inr (subst (λ t. OneShake t w) (sym e ∙ sym (append-nil bytes)) (subst (OneShake (handshake 1)) (sym f) (fresh-shake w.device)));

@@ -1,14 +1,13 @@
 -- What a host keeps is what `send` asks for.
-use Rattle.std.proofs.Common.{◌≡◌, ◌≢◌, inl, inr, ℕ, ◌<◌, ◌≤◌, Bool, true, false, List, [], ◌∷◌, ◌++◌, length, refl, sym, ap, ◌∙◌, subst, arith, append_assoc}
+use Rattle.std.proofs.Common.{◌≡◌, ◌≢◌, inl, inr, ℕ, ◌<◌, ◌≤◌, Bool, true, false, List, [], ◌∷◌, ◌++◌, length, refl, sym, ◌∙◌, subst, arith, append_assoc}
 use Rattle.std.specs.Prelude.{◌&&◌}
 use Rattle.std.proofs.lemmas.Bool.Decides.{nat_tests}
 use Rattle.fb_frame.specs.Framing.{announced}
-use Rattle.wire_model.specs.Says.{Loaded}
 use Rattle.wire_model.specs.Wire.{Wire, Phase, Shake, Command, Data, front, joined, after}
-use Rattle.wire_told.specs.Turns.{room, head_is_fine, heads_are_fine, CommandTest, front_passes, command_passes, commands_pass, IsTurn, IsSettled}
+use Rattle.wire_told.specs.Turns.{room, head_is_fine, heads_are_fine, IsTurn, IsSettled}
 use Rattle.wire_told.specs.Told.{OneFrame, OneShake, OneWhole, IsFront}
 use Rattle.wire_model.proofs.InParts.{in_parts}
-use Rattle.wire_told.proofs.OneFrames.{head-told, part-lacks, whole-front-frame, after-inside, frame-rest, frame-settled}
+use Rattle.wire_told.proofs.OneFrames.{head-told, after-inside, frame-rest, frame-settled}
 use Rattle.wire_told.proofs.OneShakes.{after-shake-part, shake-rest, shake-settled}
 
 both : (a b : Bool) → a ≡ true → b ≡ true → (a && b) ≡ true
@@ -50,63 +49,23 @@ shake-heads (b ∷ c ∷ cs) more w o =
     (subst (λ u. heads_are_fine u (c ∷ cs) ≡ true) (sym (after-shake-part (b ∷ []) (c ∷ (cs ++ more)) w o (omega arith)))
     (shake-heads (c ∷ cs) more (joined (b ∷ []) w) (shake-rest (b ∷ []) (c ∷ (cs ++ more)) w o (omega arith))))
 
--- the command that a byte completes, if it completes one, is the payload that was still to come
-phase-passes : (test : CommandTest) (ph : Phase) (loaded : Loaded) (begun : List ℕ) → (ph ≡ Command → front_passes test loaded (front ph begun) ≡ true) → command_passes test ph loaded begun ≡ true
-phase-passes test Shake loaded begun f = refl
-phase-passes test Command loaded begun f = f refl
-phase-passes test (Data count got) loaded begun f = refl
-
-byte-passes : (test : CommandTest) (p : List ℕ) (b : ℕ) (bytes : List ℕ) (w : Wire) → OneFrame p (b ∷ bytes) w → (w.phase ≡ Command → test w.loaded p ≡ true) → command_passes test w.phase w.loaded (w.rest ++ b ∷ []) ≡ true
-byte-passes test p b [] w o t =
-    phase-passes test w.phase w.loaded (w.rest ++ b ∷ [])
-    (λ e. ap (front_passes test w.loaded) (whole-front-frame p (b ∷ []) w o) ∙ t e)
-byte-passes test p b (c ∷ cs) w o t =
-    phase-passes test w.phase w.loaded (w.rest ++ b ∷ [])
-    (λ e. ap (front_passes test w.loaded) (part-lacks p (b ∷ []) (c ∷ cs) w o (omega arith)))
-
-pub frame-passes : (test : CommandTest) (p bytes more : List ℕ) (w : Wire) → OneFrame p (bytes ++ more) w → (w.phase ≡ Command → test w.loaded p ≡ true) → commands_pass test w bytes ≡ true
-unfolding commands_pass
-frame-passes test p [] more w o t = refl
-frame-passes test p (b ∷ []) more w o t = both _ _ (byte-passes test p b more w o t) refl
-frame-passes test p (b ∷ c ∷ cs) more w o t =
-    both _ _ (byte-passes test p b (c ∷ (cs ++ more)) w o t)
-    (subst (λ u. commands_pass test u (c ∷ cs) ≡ true) (sym (after-inside p (b ∷ []) (c ∷ (cs ++ more)) w o (omega arith)))
-    (frame-passes test p (c ∷ cs) more (joined (b ∷ []) w) (frame-rest p (b ∷ []) (c ∷ (cs ++ more)) w o (omega arith)) t))
-
--- a handshake completes no command
-shake-pass : (test : CommandTest) (ph : Phase) (loaded : Loaded) (begun : List ℕ) → ph ≡ Shake → command_passes test ph loaded begun ≡ true
-shake-pass test Shake loaded begun e = refl
-shake-pass test Command loaded begun e = cc
-shake-pass test (Data count got) loaded begun e = cc
-
-pub shake-passes : (test : CommandTest) (bytes more : List ℕ) (w : Wire) → OneShake (bytes ++ more) w → commands_pass test w bytes ≡ true
-unfolding commands_pass
-shake-passes test [] more w o = refl
-shake-passes test (b ∷ []) more w o = both _ _ (shake-pass test w.phase w.loaded (w.rest ++ b ∷ []) o.shaking) refl
-shake-passes test (b ∷ c ∷ cs) more w o =
-    both _ _ (shake-pass test w.phase w.loaded (w.rest ++ b ∷ []) o.shaking)
-    (subst (λ u. commands_pass test u (c ∷ cs) ≡ true) (sym (after-shake-part (b ∷ []) (c ∷ (cs ++ more)) w o (omega arith)))
-    (shake-passes test (c ∷ cs) more (joined (b ∷ []) w) (shake-rest (b ∷ []) (c ∷ (cs ++ more)) w o (omega arith))))
-
-turn-of : (test : CommandTest) (bytes more : List ℕ) (w : Wire) → OneWhole test (bytes ++ more) w → IsTurn test bytes w
-turn-of test bytes more w (inl o) = record {
+turn-of : (bytes more : List ℕ) (w : Wire) → OneWhole (bytes ++ more) w → IsTurn bytes w
+turn-of bytes more w (inl o) = record {
   running = o.one.running;
   heard = inr o.one.quiet;
   heads = frame-heads o.payload bytes more w o.one;
-  commands = frame-passes test o.payload bytes more w o.one o.passes;
   settled = frame-settled o.payload (bytes ++ more) w o.one;
 }
-turn-of test bytes more w (inr o) = record {
+turn-of bytes more w (inr o) = record {
   running = o.running;
   heard = inl o.shaking;
   heads = shake-heads bytes more w o;
-  commands = shake-passes test bytes more w o;
   settled = shake-settled (bytes ++ more) w o;
 }
 
 -- a front of what is still to come may be sent
-pub front-turn : (test : CommandTest) (bytes : List ℕ) (w : Wire) → IsFront test bytes w → IsTurn test bytes w
-front-turn test bytes w m = turn-of test bytes m.more w m.one
+pub front-turn : (bytes : List ℕ) (w : Wire) → IsFront bytes w → IsTurn bytes w
+front-turn bytes w m = turn-of bytes m.more w m.one
 
 -- For who takes the bytes: at each byte of a piece in turn the head that it completes is fine.
 first-of : (a b : Bool) → (a && b) ≡ true → a ≡ true
@@ -126,12 +85,3 @@ heads-at w [] b y s h = subst (λ u. head_is_fine u.phase (u.rest ++ b ∷ []) �
 heads-at w (c ∷ x) b y s h =
     subst (λ u. head_is_fine u.phase (u.rest ++ b ∷ []) ≡ true) (in_parts w (c ∷ []) x)
     (heads-at (after w (c ∷ [])) x b y (after-settled-byte w c) (second-of _ _ h))
-
--- and the command that it completes passes the test
-pub commands-at : (test : CommandTest) (w : Wire) (x : List ℕ) (b : ℕ) (y : List ℕ) → IsSettled w → commands_pass test w (x ++ b ∷ y) ≡ true → command_passes test (after w x).phase (after w x).loaded ((after w x).rest ++ b ∷ []) ≡ true
-unfolding commands_pass
-commands-at test w [] b y s h =
-    subst (λ u. command_passes test u.phase u.loaded (u.rest ++ b ∷ []) ≡ true) (sym s) (first-of _ _ h)
-commands-at test w (c ∷ x) b y s h =
-    subst (λ u. command_passes test u.phase u.loaded (u.rest ++ b ∷ []) ≡ true) (in_parts w (c ∷ []) x)
-    (commands-at test (after w (c ∷ [])) x b y (after-settled-byte w c) (second-of _ _ h))

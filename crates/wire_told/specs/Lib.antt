@@ -1,6 +1,5 @@
 pub mod Peers
 pub mod Turns
-pub mod FirstPath
 pub mod Told
 pub mod Places
 pub mod Answered

@@ -11,7 +11,7 @@ use Rattle.wire_told.specs.Peers.{Peer, Apart, Joined, device_of, OfLink, OnLink
 use Rattle.wire_model.specs.Wire.{Wire, Shake, Command, Data, fresh, paid, after}
 use Rattle.wire_model.specs.Halts.{Faults, Halts}
 use Rattle.wire_model.specs.Replies.{IsNoLoad}
-use Rattle.wire_told.specs.Turns.{room, CommandTest, IsTurn}
+use Rattle.wire_told.specs.Turns.{room, IsTurn}
 
 -- What may follow from these bytes, where a disk call can fail only if `broke` holds.
 unfoldable pub GoesBy : Type 0 → Wire → List ℕ → Wire → Type 0
@@ -80,8 +80,8 @@ IsBarred None = ⊥
 IsBarred (Some a) = IsFalse (is_fastboot (device_of a).mode)
 
 -- the condition of `send`
-abbrev pub InTurn : CommandTest → Option Peer → List ℕ → Type 0
-InTurn test a piece = OfLink (IsTurn test piece) a
+abbrev pub InTurn : Option Peer → List ℕ → Type 0
+InTurn a piece = OfLink (IsTurn piece) a
 
 -- the condition of `recv`: there is something to give, or the connection has closed
 abbrev pub MayHear : Option Peer → Type 0
@@ -111,28 +111,23 @@ pub record OneShake (bytes : List ℕ) (w : Wire) : Type 0 where
   pub due : 0 < length bytes
   pub bounded : w.taken + length bytes < 2 ^ 62
 
--- What is still to come of one frame, whose payload passes the test where it is a command.
-pub record OnePassed (test : CommandTest) (bytes : List ℕ) (w : Wire) : Type 0 where
+-- What is still to come of some frame.
+pub record SomeFrame (bytes : List ℕ) (w : Wire) : Type 0 where
   pub payload : List ℕ
   pub one : OneFrame payload bytes w
-  pub passes : w.phase ≡ Command → IsTrue (test w.loaded payload)
 
 -- one frame or the handshake is still to come
-abbrev pub OneWhole : CommandTest → List ℕ → Wire → Type 0
-OneWhole test bytes w = OnePassed test bytes w ⊎ OneShake bytes w
+abbrev pub OneWhole : List ℕ → Wire → Type 0
+OneWhole bytes w = SomeFrame bytes w ⊎ OneShake bytes w
 
 -- these bytes and some more are what is still to come
-pub record IsFront (test : CommandTest) (bytes : List ℕ) (w : Wire) : Type 0 where
+pub record IsFront (bytes : List ℕ) (w : Wire) : Type 0 where
   pub more : List ℕ
-  pub one : OneWhole test (bytes ++ more) w
+  pub one : OneWhole (bytes ++ more) w
 
 -- the condition that a host keeps: it sends no more than what is still to come of one frame or handshake
-abbrev pub MaySend : CommandTest → Option Peer → List ℕ → Type 0
-MaySend test a bytes = OfLink (IsFront test bytes) a
-
--- the payload of a command passes the test over what is loaded
-abbrev pub Passes : CommandTest → Option Peer → List ℕ → Type 0
-Passes test a payload = OfLink (λ w. IsTrue (test w.loaded payload)) a
+abbrev pub MaySend : Option Peer → List ℕ → Type 0
+MaySend a bytes = OfLink (IsFront bytes) a
 
 -- A command is awaited, all that was answered was heard, and `spare` bytes may still come.
 pub record IsIdle (spare : ℕ) (w : Wire) : Type 0 where

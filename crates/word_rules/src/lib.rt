@@ -2,6 +2,7 @@
 //! among them.
 #![tactic(auto)]
 
+pub mod arguments;
 pub mod command;
 pub mod error;
 pub mod found;

@@ -6,9 +6,9 @@ use Rattle.dev_store.specs.Opening.{StandsAs}
 use Rattle.dev_store.specs.Held.{device_held}
 use Rattle.dev_store.specs.Reading.{IsMended, table_within}
 use Rattle.dev_store.proofs.ImageReads.{told-long}
-use Rattle.dev_store.proofs.OpenFiles.{changes-file, opens-told, others-kept}
+use Rattle.dev_store.proofs.OpenFiles.{changes-file, opens-told, others-kept, spared}
 use Rattle.dev_store.proofs.OpenSuper.{both-two}
-use Rattle.dev_store.proofs.OpenWhole.{whole, stored, stood-before, is-now, image-of, lent-long}
+use Rattle.dev_store.proofs.OpenWhole.{whole, stored, stood-before, read-good, is-now, image-of, lent-long}
 use Rattle.dev_store.proofs.open.open_image.Goals as goal
 
 pub returns-in_default-clause-left : goal.returns-in_default-clause-left
@@ -20,6 +20,13 @@ pub returns-in_default-clause-others : goal.returns-in_default-clause-others
 returns-in_default-clause-others g c =
     others-kept (g.K.Disk.told c.args.disk.now) (g.K.Disk.told c.read_path.new.disk) (g.K.Disk.told c.repair_image.new.disk) c.args.path.now
     c.read_path.ensures.files c.read_path.ensures.later c.read_path.ensures.torn c.in-Ok.ensures.open c.repair_image.ensures.kept
+
+pub returns-in_default-clause-spared : goal.returns-in_default-clause-spared
+returns-in_default-clause-spared g c = λ bad told.
+    let mid = g.K.Disk.told c.read_path.new.disk in
+    spared (g.K.Disk.told c.args.disk.now) mid (g.K.Disk.told c.repair_image.new.disk) c.args.path.now bad
+    c.read_path.ensures.files c.in-Ok.ensures.open c.repair_image.ensures.kept
+    (read-good c.in-Ok.opened.read (open_bytes mid) bad c.in-Ok.ensures.sound c.in-Ok.ensures.read) told
 
 pub returns-clause-opens : goal.returns-clause-opens
 returns-clause-opens g c =

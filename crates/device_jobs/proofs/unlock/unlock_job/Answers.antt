@@ -5,7 +5,7 @@ use Rattle.dev_store.specs.Opening.{OnFile, OthersKept}
 use Rattle.device_jobs.specs.Outcomes.{Unlocked, unlock_outcome}
 use Rattle.device_jobs.specs.Leaves.{IsDone, LeavesUnlocking}
 use Rattle.device_jobs.specs.Working.{IsStop, IsEarly}
-use Rattle.device_jobs.proofs.OpenedLemmas.{unlock-done, unlock-left, others-opened, stop-unopened, early-unopened}
+use Rattle.device_jobs.proofs.OpenedLemmas.{unlock-done, unlock-left, others-opened, spared-opened, stop-unopened, early-unopened}
 use Rattle.device_jobs.proofs.TextLemmas.{on-ok}
 use Rattle.device_jobs.proofs.unlock.unlock_job.Goals as goal
 
@@ -54,3 +54,20 @@ returns-in-Err-clause-early g c = λ early.
     let back : c.in-Err.lost.0.now ≡ c.disk-in-Err-1.given.0 = search rules in
     subst (λ k. (told k).files ≡ (told c.args.disk.now).files) back
     (early-unopened _ c.in-Err.lost.1 c.in-Err.ensures.unwritten (subst IsEarly c.opening_stop.ensures early))
+
+pub returns-in-Ok-clause-spared : goal.returns-in-Ok-clause-spared
+returns-in-Ok-clause-spared g c = λ bad stood.
+    let told = g.K.Disk.told in
+    let last = c.unlock_store-job.new.store.disk in
+    let back : c.into_disk-disk.result.now ≡ c.disk-1.given.0 = search rules in
+    let is : last.now ≡ c.disk-1.given.0 = ap (λ d. d.now) (sym c.into_disk-disk.ensures.disk) ∙ back in
+    subst (λ k. (told k).files ≡ (told c.args.disk.now).files) is
+    (spared-opened (told c.args.disk.now) (told last.now) c.args.file.now c.in-Ok.store.device bad c.in-Ok.ensures.opens.device
+    (others-opened (told c.args.disk.now) (told c.in-Ok.store.disk.now) (told last.now) c.args.file.now c.in-Ok.store.device c.in-Ok.ensures.opens
+    c.unlock_store-job.ensures.kept.kept) stood)
+
+pub returns-in-Err-clause-spared : goal.returns-in-Err-clause-spared
+returns-in-Err-clause-spared g c = λ bad stood.
+    let told = g.K.Disk.told in
+    let back : c.in-Err.lost.0.now ≡ c.disk-in-Err-1.given.0 = search rules in
+    subst (λ k. (told k).files ≡ (told c.args.disk.now).files) back (c.in-Err.ensures.spared bad stood)

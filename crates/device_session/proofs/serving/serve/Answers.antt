@@ -3,7 +3,7 @@ use Rattle.std.specs.Prelude.{IsTrue}
 use Rattle.dev_model.specs.Partitions.{is_fastboot}
 use Rattle.device_engine.specs.Running.{held_of}
 use Rattle.device_session.specs.Gates.{Accepts}
-use Rattle.device_session.proofs.ServeLemmas.{follows-then, told-follows, both-served, both-counted, calm-then}
+use Rattle.device_session.proofs.ServeLemmas.{follows-then, halts-then, told-follows, both-served, both-counted, calm-then}
 use Rattle.device_session.proofs.serving.serve.Goals as goal
 
 pub loop-end-preserved : goal.loop-end-preserved
@@ -25,6 +25,7 @@ loop-end-preserved g c =
     record {
       within = omega (arith, more, c.loop-end.invariant.within);
       follows = follows-then told lent old c.loop-end.device next runs c.loop-end.invariant.follows c.serve_one-next.ensures.follows;
+      halts = halts-then told lent old c.loop-end.device next runs c.loop-end.invariant.follows c.serve_one-next.ensures.halts;
       room = c.serve_one-next.ensures.room ∙ c.loop-end.invariant.room;
       served = both-served told old now (held_of next) first.connections before.connections after.connections has c.loop-end.invariant.served serves;
       counted = both-counted told now (held_of next) c.loop-end.count first.connections before.connections after.connections c.loop-end.invariant.counted serves;

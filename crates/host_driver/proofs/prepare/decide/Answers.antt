@@ -15,10 +15,12 @@ use Rattle.host_driver.proofs.prepare.decide.Goals as goal
 pub ask_traits-requires-clause-serving : goal.ask_traits-requires-clause-serving
 ask_traits-requires-clause-serving g c = Serving-less _ 16416 _ (omega arith) c.requires.serving
 
-pub check-requires-clause-serving : goal.check-requires-clause-serving
-check-requires-clause-serving g c =
+pub check-requires : goal.check-requires
+check-requires g c =
     let long = ap length c.as_slice-lines.ensures in
-    learned-serving _ 16416 _ (trait_questions c.updates_super-updates.result) (AreTraits c.updates_super-updates.result c.in-Ok.answer.1) _ _ c.in-Ok.ensures.learned (omega (arith, long)) c.requires.serving
+    record {
+      serving = learned-serving _ 16416 _ (trait_questions c.updates_super-updates.result) (AreTraits c.updates_super-updates.result c.in-Ok.answer.1) _ _ c.in-Ok.ensures.learned (omega (arith, long)) c.requires.serving;
+    }
 
 pub returns-in-Err-clause-unprepared : goal.returns-in-Err-clause-unprepared
 returns-in-Err-clause-unprepared g c =

@@ -1,0 +1,22 @@
+pub mod SaysLemmas
+pub mod EarlyLemmas
+pub mod QuestionLemmas
+pub mod InstalledLemmas
+pub mod LeftLemmas
+pub mod OutcomeLemmas
+pub mod CalmLemmas
+pub mod CompletingLemmas
+pub mod ReportLemmas
+pub mod ReportEndLemmas
+pub mod WideLemmas
+pub mod AimLemmas
+pub mod EndLemmas
+pub mod HostLemmas
+pub mod LineLemmas
+pub mod ShownLemmas
+pub mod OpenLemmas
+pub mod AnsweredLemmas
+pub mod ActLemmas
+pub mod CallLemmas
+pub mod WordsLemmas
+mod FitsLemmas

@@ -1,0 +1,10 @@
+pub mod Subjects
+pub mod Verdicts
+pub mod Outcomes
+pub mod Ending
+pub mod Hosted
+pub mod Calm
+pub mod LineParts
+pub mod Acts
+pub mod Completing
+pub mod Rows
