@@ -93,7 +93,7 @@ fn words_of(alloc: Global, line: &str) -> Result<Vec<String>, AllocError> {
 fn show(rt: &HostRuntime, gate: &ScriptGate, count: usize) -> anyhow::Result<()> {
     for k in 0..count {
         let mut line = Vec::new(rt.alloc());
-        add_shown(&mut line, gate.written(k as u32))?;
+        add_shown(&mut line, gate.written(u32::try_from(k)?))?;
         let text = String::from_utf8(line)?;
         println!(rt; "{k}: {text}")?;
     }
