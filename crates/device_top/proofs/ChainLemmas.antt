@@ -106,15 +106,18 @@ chain told first old (c ∷ d ∷ rest) new a f (mid, one, (end, next, more)) =
 -- a wider cause of a failed disk call
 pub leads-weaker : (broke more : Type 0) → (broke → more) → (dev : Dev) (served : List Connection) (left : Dev) → Leads broke dev served left → Leads more dev served left
 leads-weaker broke more f dev [] left e = e
-leads-weaker broke more f dev (c ∷ rest) left (mid, one, l) =
-    (mid, record {
-      begins = one.begins;
-      state = one.state;
-      taken = one.taken;
-      within = one.within;
-      goes = goes-weaker broke more f (fresh dev) one.state (take one.taken c.gives) one.goes;
-      leaves = one.leaves;
-      written = one.written;
-      whole = one.whole;
-      ended = one.ended;
-    }, leads-weaker broke more f mid rest left l)
+leads-weaker broke more f dev (c ∷ rest) left (mid, one, l) = (
+  mid,
+  record {
+    begins = one.begins;
+    state = one.state;
+    taken = one.taken;
+    within = one.within;
+    goes = goes-weaker broke more f (fresh dev) one.state (take one.taken c.gives) one.goes;
+    leaves = one.leaves;
+    written = one.written;
+    whole = one.whole;
+    ended = one.ended;
+  },
+  leads-weaker broke more f mid rest left l,
+)

@@ -92,8 +92,10 @@ module _ (asked : Option DeviceWords) (count status : ℕ) (p q : Output) where
   own None wanted lines w h (inl k) = record {
     decided = own-decided wanted k.0 h;
     output = λ n. absurd (own-other wanted status 9 w k.0 n (inr (inr (inr refl))));
-    printed = (((λ n. absurd (own-other wanted status 2 w k.0 n (inl refl))), (λ n. absurd (own-other wanted status 3 w k.0 n (inr (inl refl))))),
-        (λ n. absurd (own-other wanted status 6 w k.0 n (inr (inr (inl refl))))));
+    printed = (
+      ((λ n. absurd (own-other wanted status 2 w k.0 n (inl refl))), (λ n. absurd (own-other wanted status 3 w k.0 n (inr (inl refl))))),
+      (λ n. absurd (own-other wanted status 6 w k.0 n (inr (inr (inl refl))))),
+    );
   }
   own None wanted lines w h (inr n) = record {
     decided = inr (inr (outside-nine asked status n.0));

@@ -226,7 +226,7 @@ none-served : (dev : Dev) (most : ℕ) (image : Option (List ℕ)) (broke honest
 none-served dev most image broke honest None None e f h = tt
 none-served dev most image broke honest None (Some y) e f h = absurd cc
 none-served dev most image broke honest (Some x) None e f h = absurd cc
-none-served dev most image broke honest (Some x) (Some y) e f h = 
+none-served dev most image broke honest (Some x) (Some y) e f h =
     let same : y ≡ x = cc in
     record {
       served = [];

@@ -45,7 +45,8 @@ StandsServing (Ok dev) now = (left : Dev) × Stands now left
 abbrev pub LeavesServing : List ℕ → List ℕ → Type 0
 LeavesServing file now = StandsServing (stand file) now
 
--- What a call leaves in the image's file, whatever its status. Of a file that is made the other clauses say it.
+-- What a call leaves in the image's file, whatever its status. Of a file that is made the other clauses say
+-- it.
 abbrev pub Leaves : Option DeviceWords → Option Files → Option Files → Type 0
 Leaves None old new = Unit {0}
 Leaves (Some (Make layout file unlocked)) old new = Unit {0}
@@ -84,5 +85,5 @@ abbrev pub Serves : Call → DiskTold → DiskTold → GateTold → GateTold →
 Serves call old new a b = OnServe call.asked (λ file most.
     Both (ServesBy (ending call) call.status
     (λ dev. IsServed (serve_call dev most call.status new.files file) (Rose old.faults new.faults)
-        (IsHonest new.torn)))
+    (IsHonest new.torn)))
     a.connections b.connections)

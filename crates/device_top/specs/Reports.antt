@@ -10,7 +10,8 @@ use Rattle.device_session.specs.Gates.{GateTold}
 use Rattle.device_session.specs.Serving.{AcceptsCount}
 use Rattle.device_words.specs.declared.request.DeviceWords.{DeviceWords}
 use Rattle.device_words.specs.declared.request.DeviceWords.TheVariants.{Make, Show, Unlock, Serve}
-use Rattle.device_top.specs.Endings.{Ending, Job, ending_of, ending_status, ending_text, gate_line, served_line}
+use Rattle.device_top.specs.Endings.{Ending, Job, ending_of, ending_status, ending_text, gate_line}
+use Rattle.device_top.specs.Endings.{served_line}
 
 -- A call: what its words ask for, the files before it, where they are told, and its status.
 pub record Call : Type 0 where
@@ -25,8 +26,8 @@ call_of asked files status = record { asked = asked; files = files; status = sta
 abbrev pub ending : Call → Option Ending
 ending call = ending_of call.asked call.files
 
--- Want of memory, or an output that failed; of words that are taken also a disk that failed, and of those that
--- serve a gate.
+-- Want of memory, or an output that failed; of words that are taken also a disk that failed, and of those
+-- that serve a gate.
 abbrev pub IsOutside : Option DeviceWords → ℕ → Type 0
 IsOutside None status = (status ≡ 2) ⊎ (status ≡ 9)
 IsOutside (Some (Serve file port connections)) status = (status ≡ 6) ⊎ jobs.IsOutside status
@@ -70,8 +71,8 @@ PrintsServed _ count status old new = Unit {0}
 abbrev pub FaultLine : ℕ → Option (List ℕ) → Option (List ℕ) → Type 0
 FaultLine status old new = jobs.IsReported None status old new × (status ≡ 6 → Grew old new gate_line)
 
--- The told text grew by the lines of the ending, or by the one line of a fault, as the status says. With status
--- 9 it grew by a front of them.
+-- The told text grew by the lines of the ending, or by the one line of a fault, as the status says. With
+-- status 9 it grew by a front of them.
 abbrev pub PrintsBy : Option Ending → ℕ → ℕ → Option (List ℕ) → Option (List ℕ) → Type 0
 PrintsBy None count status old new = FaultLine status old new
 PrintsBy (Some ending) count status old new =

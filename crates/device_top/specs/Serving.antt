@@ -16,10 +16,10 @@ use Rattle.device_session.specs.Gates.{Connection, Connections}
 use Rattle.device_session.specs.Serving.{IsFront}
 use Rattle.device_top.specs.Endings.{Ending, Serving}
 
--- One connection with a device, and the device that it leaves: what was taken of it leads from a fresh state to
--- one whose output was written, a front of it where a call failed. A connection in which no call failed ended
--- only where the session closed or all that it gives was taken. A disk call can have failed only if `broke`
--- holds.
+-- One connection with a device, and the device that it leaves: what was taken of it leads from a fresh state
+-- to one whose output was written, a front of it where a call failed. A connection in which no call failed
+-- ended only where the session closed or all that it gives was taken. A disk call can have failed only if
+-- `broke` holds.
 pub record Connects (broke : Type 0) (dev : Dev) (c : Connection) (left : Dev) : Type 0 where
   pub begins : MayConnect dev
   pub state : Wire
@@ -36,8 +36,8 @@ abbrev pub Leads : Type 0 → Dev → List Connection → Dev → Type 0
 Leads broke dev [] left = left ≡ dev
 Leads broke dev (c ∷ rest) left = (mid : Dev) × Connects broke dev c mid × Leads broke mid rest left
 
--- A call that serves: the device that is opened, how many connections are asked for, the status, and the image
--- after the call, where it is told.
+-- A call that serves: the device that is opened, how many connections are asked for, the status, and the
+-- image after the call, where it is told.
 pub record ServeCall : Type 0 where
   pub dev : Dev
   pub most : ℕ
@@ -49,9 +49,9 @@ serve_call dev most status files path =
     record { dev = dev; most = most; status = status; image = option_and_then (λ f. f path) files }
 
 -- Connections were accepted one after another, at most as many as were asked for, the first of them with the
--- device that was opened; and the image stands for the device that the last one left. Status 0 comes only where
--- the device left fastboot, as many were accepted, or no told one is left. A device that halted ends with 3 or
--- 9, and 3 comes only with such a device, or with nothing accepted.
+-- device that was opened; and the image stands for the device that the last one left. Status 0 comes only
+-- where the device left fastboot, as many were accepted, or no told one is left. A device that halted ends
+-- with 3 or 9, and 3 comes only with such a device, or with nothing accepted.
 pub record IsServed (s : ServeCall) (broke honest : Type 0) (a b : Connections) : Type 0 where
   pub served : List Connection
   pub left : Dev

@@ -1,5 +1,6 @@
 -- What the parts of a call answer and leave.
-use Rattle.std.specs.Prelude.{◌≡◌, ◌⊎◌, ℕ, ◌≤◌, List, Option, Some, None, Result, Ok, Err, IfErr, IfSome, IsTrue}
+use Rattle.std.specs.Prelude.{◌≡◌, ◌⊎◌, ℕ, ◌≤◌, List, Option, Some, None, Result, Ok, Err, IfErr, IfSome}
+use Rattle.std.specs.Prelude.{IsTrue}
 use Rattle.fb_frame.specs.Causes.{Rose}
 use Rattle.fb_frame.specs.Told.{Both}
 use Rattle.dev_disk.specs.Disks.{DiskTold, open_bytes}
@@ -12,7 +13,8 @@ use Rattle.dev_store.specs.Opening.{OpensImage, OpensTold, StandsAs, OnFile, Oth
 use Rattle.device_jobs.specs.declared.job.JobError.{JobError}
 use Rattle.device_jobs.specs.Outcomes.{show_outcome}
 use Rattle.device_jobs.specs.Printed.{memory_line, disk_line}
-use Rattle.device_jobs.specs.Working.{IsStop, IsEarly, IsImageStop, Output, Ends, EndsBy, stop_status, stop_line}
+use Rattle.device_jobs.specs.Working.{IsStop, IsEarly, IsImageStop, Output, Ends, EndsBy, stop_status}
+use Rattle.device_jobs.specs.Working.{stop_line}
 use Rattle.device_session.specs.Gates.{GateTold}
 use Rattle.device_session.specs.Serving.{AcceptsCount}
 use Rattle.device_session.specs.declared.serving.ServeEnd.{ServeEnd}
@@ -24,7 +26,8 @@ use Rattle.device_top.specs.declared.report.ServeStop.{ServeStop}
 use Rattle.device_top.specs.declared.report.ServeStop.TheVariants as stop
 use Rattle.device_top.specs.Endings.{gate_line, served_line, usage_line}
 use Rattle.device_top.specs.Reports.{Call, call_of, IsDecided, IsDiskEnd, Prints}
-use Rattle.device_top.specs.Calls.{IsDone, Leaves, LeavesServing, KeepsDisk, KeepsGate, Listening, IsGateEnd, Serves}
+use Rattle.device_top.specs.Calls.{IsDone, Leaves, LeavesServing, KeepsDisk, KeepsGate, Listening, IsGateEnd}
+use Rattle.device_top.specs.Calls.{Serves}
 use Rattle.device_top.specs.Serving.{IsServed, serve_call}
 
 -- status and line of words that ask for nothing

@@ -37,11 +37,7 @@ fn open_device<K: Disk>(alloc: Global, disk: K, file: &str) -> Result<Device<K>,
 }
 
 /// The device of an image, and the memory of its connections.
-fn prepare<K: Disk>(
-    alloc: Global,
-    disk: K,
-    file: &str,
-) -> Result<(Device<K>, Room), (K, JobError)>
+fn prepare<K: Disk>(alloc: Global, disk: K, file: &str) -> Result<(Device<K>, Room), (K, JobError)>
     ensures opened { IfOk result (λ r. IsOpened K.told K.lent disk file.now (held_of r.0)) }
     ensures typed { IfOk result (λ r. IsTyped r.0) }
     ensures room { IfOk result (λ r. (held_of r.0).device.max ≤ r.1) }

@@ -53,7 +53,15 @@ rose-in a b c d h g r = omega (arith, h, g, r)
 
 same-port : (p : PortTold) → IsSamePort p p
 same-port p = record {
-  peer = refl; up = refl; aimed = refl; last = refl; stands = refl; heard = refl; log = refl; faults = refl; ends = refl;
+  peer = refl;
+  up = refl;
+  aimed = refl;
+  last = refl;
+  stands = refl;
+  heard = refl;
+  log = refl;
+  faults = refl;
+  ends = refl;
   honest = (λ h. h, λ h. h);
 }
 
@@ -61,13 +69,27 @@ same-port p = record {
 pub lasts-unused : (p : PortTold) (f g : Folder) (x z : Option (List ℕ)) (m k : ℕ) (v : Verdict) (status : ℕ) → g.path ≡ f.path → g.files ≡ f.files → f.faults ≤ g.faults →
     Shows v x z status → m ≤ k → Lasts (outside p f x m) (outside p g z k)
 lasts-unused p f g x z m k v status e h l s t = record {
-  path = e; files = h; folder = l; port = same-le p.faults; ends = same-le p.ends; honest = λ y. y; output = t; grows = shows-grow v x z status s;
+  path = e;
+  files = h;
+  folder = l;
+  port = same-le p.faults;
+  ends = same-le p.ends;
+  honest = λ y. y;
+  output = t;
+  grows = shows-grow v x z status s;
 }
 
 pub lasts-astray : (p q : PortTold) (f g : Folder) (x z : Option (List ℕ)) (m k : ℕ) (v : Verdict) (status : ℕ) → g.path ≡ f.path → g.files ≡ f.files → f.faults ≤ g.faults →
     Turns p q → Shows v x z status → m ≤ k → Lasts (outside p f x m) (outside q g z k)
 lasts-astray p q f g x z m k v status e h l u s t = record {
-  path = e; files = h; folder = l; port = u.later; ends = subst (λ n. p.ends ≤ n) (sym u.ends) (same-le p.ends); honest = u.honest; output = t; grows = shows-grow v x z status s;
+  path = e;
+  files = h;
+  folder = l;
+  port = u.later;
+  ends = subst (λ n. p.ends ≤ n) (sym u.ends) (same-le p.ends);
+  honest = u.honest;
+  output = t;
+  grows = shows-grow v x z status s;
 }
 
 -- a call over a port that was aimed keeps what it keeps
@@ -146,26 +168,27 @@ pub led-call : (place : Place) (dir : List ℕ) (product : Product) (options : O
     h.files ≡ f.files → f.faults ≤ h.faults → IsAimed p a place → Turns p a → HasRun (order product options) (outside a h x m) (outside q g z k) status →
     Ends (Some (FlashAll place dir options)) (outside p f x m) (outside q g z k) status
 led-call place dir product options p a q f h g x z m k status e r s l i t n =
-    inr
-    (product,
-    record { here = e.here; read = r; entered = subst IsTrue (sym n.drives.folder.entered) e.entered },
-    inr
-    (run-ends place (order product options) (outside p f x m) (outside q g z k) status
-    (record {
-      port = a;
-      aimed = i;
-      turns = t;
-      folder = h;
-      files = s;
-      later = l;
-      course = n.course;
-      mid = n.mid;
-      put = n.put;
-      drives = n.drives;
-      shows = n.shows;
-      shown_later = n.shown_later;
-      failed = n.failed;
-    })))
+    inr (
+      product,
+      record { here = e.here; read = r; entered = subst IsTrue (sym n.drives.folder.entered) e.entered },
+      inr
+          (run-ends place (order product options) (outside p f x m) (outside q g z k) status
+          (record {
+            port = a;
+            aimed = i;
+            turns = t;
+            folder = h;
+            files = s;
+            later = l;
+            course = n.course;
+            mid = n.mid;
+            put = n.put;
+            drives = n.drives;
+            shows = n.shows;
+            shown_later = n.shown_later;
+            failed = n.failed;
+          })),
+    )
 
 pub lasts-led : (p a q : PortTold) (f h g : Folder) (x z : Option (List ℕ)) (m k status : ℕ) (o : Order) → h.path ≡ f.path → h.files ≡ f.files → f.faults ≤ h.faults → Turns p a →
     HasRun o (outside a h x m) (outside q g z k) status → Lasts (outside p f x m) (outside q g z k)

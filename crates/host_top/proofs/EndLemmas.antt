@@ -114,9 +114,10 @@ module _ (place : Place) (o : Order) (old new : Outside) (status : ℕ) (r : Ran
       (both-on o r.folder.files r.port.peer new.port.peer (IsLed (moved start end) r.course) (λ j t. Drove j start end r.course t) r.drives.device r.drives.job)
 
   over-wider : (s t : Dev) → Over s t → LedOver o old (with_text r.mid new) r.course s t
-  over-wider s t x =
-      (led-wider wide-text r.course s t x.0,
-      files-on old.folder.files (λ f. Drove (job o f s) start end r.course t) (λ f. Drove (job o f s) old (with_text r.mid new) r.course t) (λ f. drove-wider (job o f s) t) x.1)
+  over-wider s t x = (
+    led-wider wide-text r.course s t x.0,
+    files-on old.folder.files (λ f. Drove (job o f s) start end r.course t) (λ f. Drove (job o f s) old (with_text r.mid new) r.course t) (λ f. drove-wider (job o f s) t) x.1,
+  )
 
   untold-wider : new.port.peer ≡ None → TriedUntold (length r.course.numbers - 1) old new
   untold-wider e =

@@ -36,6 +36,7 @@ inspection-stopped dir wipe first mid new (bad.Directory file) e s f l d k b = r
   failed = rose-later first.faults mid.faults new.faults l (d file refl);
   looked = subst (λ o. OfFiles o (λ files. IsTrue (is_among (looked_at wipe files) file))) f (k file refl);
 }
-inspection-stopped dir wipe first mid new (bad.Bad file flaw) e s f l d k b =
-    (entered-still dir first mid new e s,
-    subst (λ o. OfFiles o (λ files. product_of files wipe ≡ Err (file, flaw))) f (b file flaw refl))
+inspection-stopped dir wipe first mid new (bad.Bad file flaw) e s f l d k b = (
+  entered-still dir first mid new e s,
+  subst (λ o. OfFiles o (λ files. product_of files wipe ≡ Err (file, flaw))) f (b file flaw refl),
+)

@@ -55,7 +55,7 @@ module _ (j : Job) where
   pub unmet-out : (line : ℕ) (name : List ℕ) (value : Option (List ℕ)) (t : Dev) → IsUnmet j line name value t → Unmet line name value ≡ (job_outcome j).verdict
   unmet-out line name value t u =
       let first = ap (λ o. met_outcome (lines_of j).asks j.device o (plan_outcome (lines_of j).asks (lines_of j).steps j.device (planned j)))
-          (unmet-some j.options.force j.product.requirements j.device u.requirement u.asked_for u.first) in
+      (unmet-some j.options.force j.product.requirements j.device u.requirement u.asked_for u.first) in
       let one = ap (λ n. Unmet n name value) u.line_is in
       let two = ap (λ n. Unmet u.requirement.line n value) u.name_is in
       let three = ap (λ n. Unmet u.requirement.line u.requirement.name n) u.value_is in
@@ -70,7 +70,7 @@ module _ (j : Job) where
   first-refused plan [] start text e m r f = ap is_some (ap (first_refusal plan) (sym r) ∙ f)
   first-refused plan (n ∷ earlier) start text e m r f =
       let alike = plan_refused_alike j.files j.product j.options plan j.device start (made-plan (is_met j) (planned j) plan e)
-          (record { valid = m.valid; numbers = n ∷ earlier; chain = r.0; runs = r.1 }) m.serves in
+      (record { valid = m.valid; numbers = n ∷ earlier; chain = r.0; runs = r.1 }) m.serves in
       sym alike ∙ ap is_some f
 
   -- the status of a plan that the device takes, and of one that it doesn't take

@@ -23,7 +23,7 @@ shown-part a b c at n text front piece =
     let next = take n (drop at text) in
     let rest = drop n (drop at text) in
     let whole : shown first ++ (shown next ++ shown rest) ≡ shown text =
-        ap (λ l. shown first ++ l) (sym (map-append shown_byte next rest) ∙ ap shown (take-append-drop n (drop at text)))
-        ∙ (sym (map-append shown_byte first (drop at text)) ∙ ap shown (take-append-drop at text)) in
+    ap (λ l. shown first ++ l) (sym (map-append shown_byte next rest) ∙ ap shown (take-append-drop n (drop at text)))
+    ∙ (sym (map-append shown_byte first (drop at text)) ∙ ap shown (take-append-drop at text)) in
     subst (GrewPart a c) whole
     (GrewPart-after a b c (shown first) (shown next ++ shown rest) front (GrewPart-before b c (shown next) (shown rest) piece))

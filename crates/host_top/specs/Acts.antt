@@ -1,5 +1,6 @@
 -- What the parts of a call come to: a folder that is read, an installation over an aimed port, a question.
-use Rattle.std.specs.Prelude.{◌≡◌, ◌⊎◌, ℕ, ◌≤◌, Bool, false, List, length, Option, Some, Result, Ok, Err, is_some}
+use Rattle.std.specs.Prelude.{◌≡◌, ◌⊎◌, ℕ, ◌≤◌, Bool, false, List, length, Option, Some, Result, Ok, Err}
+use Rattle.std.specs.Prelude.{is_some}
 use Rattle.std.specs.Prelude.{IsTrue, IsFalse}
 use Rattle.fb_frame.specs.Causes.{Rose}
 use Rattle.fb_frame.specs.Framing.{frame}
@@ -26,7 +27,8 @@ use Rattle.host_top.specs.declared.opening.Unread.{Unread}
 use Rattle.host_top.specs.declared.opening.Unread.TheVariants as unread
 use Rattle.host_top.specs.Ending.{ShowsLast, Answers}
 use Rattle.host_top.specs.Subjects.{is_elsewhere}
-use Rattle.host_top.specs.Verdicts.{Verdict, NoMemory, NoFolder, Flawed, Told as TellsText, Refusing, verdict_of}
+use Rattle.host_top.specs.Verdicts.{Verdict, NoMemory, NoFolder, Flawed, Told as TellsText, Refusing}
+use Rattle.host_top.specs.Verdicts.{verdict_of}
 
 -- a folder that isn't entered, and a folder without a product
 abbrev pub unread_enter : EnterError → Unread
@@ -69,8 +71,8 @@ WhyUnread dir wipe old new (unread.File file) = FailsAt file dir wipe old new
 WhyUnread dir wipe old new (unread.Flawed file flaw) =
     IsEntered dir old new × OfFiles old.files (λ files. product_of files wipe ≡ Err (file, flaw))
 
--- An installation ran over an aimed port, and then the last line was put. `mid` and `put` are the text and the
--- output's count before it.
+-- An installation ran over an aimed port, and then the last line was put. `mid` and `put` are the text and
+-- the output's count before it.
 pub record HasRun (order : Order) (old new : Outside) (status : ℕ) : Type 0 where
   pub course : Course
   pub mid : Option (List ℕ)
@@ -101,7 +103,8 @@ pub record IsAnswered (name : List ℕ) (old new : Seen) (answer : Result Told D
   pub down : IsFalse new.port.up
   pub kept : Kept old.port new.port
 
--- It was asked, and then the last line was put. `mid` and `put` are the text and the output's count before it.
+-- It was asked, and then the last line was put. `mid` and `put` are the text and the output's count before
+-- it.
 pub record HasAsked (name : List ℕ) (old new : Outside) (status : ℕ) : Type 0 where
   pub answer : Result Told DriveError
   pub mid : Option (List ℕ)

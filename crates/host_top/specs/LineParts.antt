@@ -8,7 +8,8 @@ use Rattle.word_rules.specs.declared.error.WordsError.{WordsError}
 use Rattle.word_rules.specs.declared.error.WordsError.TheVariants as words
 use Rattle.host_top.specs.declared.verdict.Verdict.{Verdict as Code}
 use Rattle.host_top.specs.declared.verdict.Verdict.TheVariants as code
-use Rattle.host_top.specs.Verdicts.{Verdict, Usage, NoMemory, NoFolder, Flawed, NoLink, NoDevice, Unmet, NoPlan}
+use Rattle.host_top.specs.Verdicts.{Verdict, Usage, NoMemory, NoFolder, Flawed, NoLink, NoDevice, Unmet}
+use Rattle.host_top.specs.Verdicts.{NoPlan}
 use Rattle.host_top.specs.Verdicts.{Refusing, NoPeer, TooManyLines, Done, Told}
 use Rattle.host_top.specs.Verdicts.{image_text, kind_text, flaw_text, value_text}
 

@@ -1,5 +1,6 @@
 -- What the last line of fbflash tells, and with which status the program ends.
-use Rattle.std.specs.Prelude.{ℕ, List, [], ◌∷◌, ◌++◌, take, Option, Some, None, Result, Ok, Err, codes, decimal}
+use Rattle.std.specs.Prelude.{ℕ, List, [], ◌∷◌, ◌++◌, take, Option, Some, None, Result, Ok, Err, codes}
+use Rattle.std.specs.Prelude.{decimal}
 use Rattle.hex.specs.Hex.{encode_lower}
 use Rattle.fb_frame.specs.Shown.{shown}
 use Rattle.product_info.specs.declared.info.InfoKind.{InfoKind}

@@ -54,15 +54,7 @@ fn run_words<D: ProductDir, P: Port, S: Sink>(
     match &words.action {
         HostAction::FlashAll(path) => {
             let aim = target.target();
-            flash_all(
-                alloc,
-                &aim,
-                path.as_str(),
-                &words.options,
-                dir,
-                port,
-                out,
-            )
+            flash_all(alloc, &aim, path.as_str(), &words.options, dir, port, out)
         }
         HostAction::GetVar(name) => {
             let aim = target.target();
@@ -82,8 +74,8 @@ fn words_verdict<'a>(error: WordsError) -> Verdict<'a>
     }
 }
 
-/// Runs fbflash: `words` are those of its command line without the program's name. Answers the status that the
-/// program ends with, and puts the lines that it prints into `out`.
+/// Runs fbflash: `words` are those of its command line without the program's name. Answers the status that
+/// the program ends with, and puts the lines that it prints into `out`.
 pub fn host_main<D: ProductDir, P: Port, S: Sink>(
     alloc: Global,
     words: &[String],

@@ -49,14 +49,20 @@ fn install<D: ProductDir, P: Port, S: Sink>(
     ensures same { P.lent port.new ≡ P.lent port.old }
     ensures dir_same { D.lent dir.new ≡ D.lent dir.old }
 {
-    let Drive { link, outcome, .. } =
-        flash(alloc, product, options, dir, Lost::new(&mut *port), out);
+    let Drive { link, outcome, .. } = flash(
+        alloc,
+        product,
+        options,
+        dir,
+        Lost::new(&mut *port),
+        out,
+    );
     let _port = link.into_port();
     end_any(end_verdict(&outcome), out)
 }
 
-/// Installs the product of the folder of this path on the device that the target stands for, and puts the last
-/// line. Answers the status.
+/// Installs the product of the folder of this path on the device that the target stands for, and puts the
+/// last line. Answers the status.
 pub(crate) fn flash_all<D: ProductDir, P: Port, S: Sink>(
     alloc: Global,
     target: &Target<'_>,

@@ -167,7 +167,12 @@ fn put_line_name<S: Sink>(word: &[u8], line: u32, name: &[u8], out: &mut S) -> R
 
 /// Puts a word, the number of a line, the name in it, and a blank.
 #[tactic(auto, using(fb_frame::proofs::SinkLemmas::sink_lines))]
-fn put_line_apart<S: Sink>(word: &[u8], line: u32, name: &[u8], out: &mut S) -> Result<(), SinkFault>
+fn put_line_apart<S: Sink>(
+    word: &[u8],
+    line: u32,
+    name: &[u8],
+    out: &mut S,
+) -> Result<(), SinkFault>
     ensures put { OnOk result (Grew (S.text out.old) (S.text out.new)
         (word.now ++ decimal line ++ codes " " ++ shown name.now ++ codes " ")) }
     ensures part { OnErr result (GrewPart (S.text out.old) (S.text out.new)
@@ -229,7 +234,13 @@ fn put_said<S: Sink>(verdict: Verdict<'_>, out: &mut S) -> Result<(), SinkFault>
         Verdict::Flawed(file, flaw) => put_flawed(b"product ", file, flaw, out),
         Verdict::NoLink => out.put(b"link"),
         Verdict::NoDevice(kind) => put_both(b"device ", image_text(kind), out),
-        Verdict::Unmet(line, name, value) => put_unmet(b"requirement line ", line, name, value, out),
+        Verdict::Unmet(line, name, value) => put_unmet(
+            b"requirement line ",
+            line,
+            name,
+            value,
+            out,
+        ),
         Verdict::NoPlan(line, kind) => put_line(b"plan line ", line, kind_text(kind), out),
         Verdict::Refusing(text) => put_named(b"refused ", text, out),
         Verdict::NoPeer(kept) => put_kept(b"peer ", kept, out),

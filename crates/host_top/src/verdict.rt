@@ -17,8 +17,8 @@ pub enum Verdict<'a> {
     NoLink,
     /// The image stands for no device.
     NoDevice(BadImage),
-    /// The device doesn't meet this line of android-info.txt, which names this variable, by this value where it
-    /// has one.
+    /// The device doesn't meet this line of android-info.txt, which names this variable, by this value where
+    /// it has one.
     Unmet(u32, &'a [u8], Option<&'a [u8]>),
     /// No plan is made at this line of fastboot-info.txt; 0 stands before all lines.
     NoPlan(u32, PlanKind),

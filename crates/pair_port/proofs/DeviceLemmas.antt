@@ -65,11 +65,13 @@ picked told old new bytes f =
     let dev : Dev = seen file f.state.device in
     let wire : IsTrue (is_some file) → wire_at new dev ≡ f.state =
     λ t. ap (λ (u : Wire). record u { device = device_at new.held dev }) f.comes.same
-        ∙ ap (λ (d : Dev). record f.state { device = d }) (at-told told new.held m dev f.comes.device ∙ seen-told file f.state.device t) in
-    (dev, record {
-      has = has-told told new.held m dev f.comes.device;
-      goes = λ t. subst (λ (u : Wire). GoesBy (Rose (told old.held.disk).faults (told new.held.disk).faults) (wire_of old) bytes u) (sym (wire t)) f.goes;
-    })
+    ∙ ap (λ (d : Dev). record f.state { device = d }) (at-told told new.held m dev f.comes.device ∙ seen-told file f.state.device t) in (
+      dev,
+      record {
+        has = has-told told new.held m dev f.comes.device;
+        goes = λ t. subst (λ (u : Wire). GoesBy (Rose (told old.held.disk).faults (told new.held.disk).faults) (wire_of old) bytes u) (sym (wire t)) f.goes;
+      },
+    )
 
 -- a disk tells its files after a call exactly where it did before
 pub alike : (a b : Option Files) (path : Option (List ℕ)) → KeepsUnopened a b path → is_some b ≡ is_some a

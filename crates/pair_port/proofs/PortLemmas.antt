@@ -60,7 +60,6 @@ pub drops : {K : Type 0} (told : K → DiskTold) (p : Pair K) (count : Counters 
     Drops (pair_told told p) (pair_told told (ended count p))
 drops told p count k e = subst (λ d. Drops (pair_told told p) (told_by (told d) (ended count p))) (sym (disk-down p.end)) (drops-by (told (disk_of p.end)) p count k e)
 
-
 -- Connections that begin.
 begins-by : {K : Type 0} (a : DiskTold) (p q : Pair K) → ConnectsPair p q → Begins (told_by a p) (told_by a q)
 begins-by a p q c = record {

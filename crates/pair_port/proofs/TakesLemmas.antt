@@ -59,7 +59,13 @@ pub record IsFed {K L : Type 0} (told : K → DiskTold) (lent : K → L) (piece 
 
 pub fed-none : {K L : Type 0} (told : K → DiskTold) (lent : K → L) (piece : List ℕ) (live : Live K) (left : Dev) → IsReady told live.held live.room left → Runs live → IsFed told lent piece 0 live live left left
 fed-none told lent piece live left r s = record {
-  within = omega arith; still = λ _. refl; left_still = λ _. refl; takes = λ k. absurd (none k); ready = r; runs = s; same = refl;
+  within = omega arith;
+  still = λ _. refl;
+  left_still = λ _. refl;
+  takes = λ k. absurd (none k);
+  ready = r;
+  runs = s;
+  same = refl;
 } where
   none : 0 < 0 → ⊥
   none k = omega (arith, k)

@@ -1,5 +1,6 @@
 -- What each call on the port does.
-use Rattle.std.specs.Prelude.{◌≡◌, ◌⊎◌, ℕ, ◌≤◌, ◌==◌, not, ◌&&◌, ◌||◌, IsTrue, IsFalse, List, [], ◌++◌, length, drop, min}
+use Rattle.std.specs.Prelude.{◌≡◌, ◌⊎◌, ℕ, ◌≤◌, ◌==◌, not, ◌&&◌, ◌||◌, IsTrue, IsFalse, List, [], ◌++◌}
+use Rattle.std.specs.Prelude.{length, drop, min}
 use Rattle.fb_frame.specs.Causes.{Rose}
 use Rattle.dev_disk.specs.Disks.{DiskTold, OpenKept}
 use Rattle.dev_model.specs.declared.device.Dev.{Dev}

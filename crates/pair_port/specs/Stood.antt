@@ -13,8 +13,8 @@ abbrev pub stand_at : Stands → Option Place → Option Stand
 stand_at stands None = None
 stand_at stands (Some place) = stands place
 
--- What stands here is the device, but for the mode: it is the mode in which the device starts, unless that one
--- halted.
+-- What stands here is the device, but for the mode: it is the mode in which the device starts, unless that
+-- one halted.
 pub record IsStand (stand : Stand) (dev : Dev) : Type 0 where
   pub found : Dev
   pub is : stand ≡ Device found

@@ -9,8 +9,8 @@ use dev_disk::disk::Disk;
 use device_session::session::Session;
 use std::marker::Brand;
 
-/// Lets a session take a front of the piece, up to the end of what stands at its front. What is told of a device
-/// whose disk failed in it is what the session says there is.
+/// Lets a session take a front of the piece, up to the end of what stands at its front. What is told of a
+/// device whose disk failed in it is what the session says there is.
 fn feed_once<K: Disk>(session: &mut Session<K>, left: &mut Left, piece: &[u8]) -> usize
     requires ready { IsReady K.told session.old.held session.old.room left.old.device }
     requires runs { Runs session.old }
@@ -28,7 +28,10 @@ fn feed_once<K: Disk>(session: &mut Session<K>, left: &mut Left, piece: &[u8]) -
     let before = Seen::of(session);
     let n = session.feed(piece);
     if n > 0 {
-        *left = Left::choose::<(Seen<Session<K>>, &[u8]), Session<K>, Brand>(&(before, &piece[..n]), session);
+        *left = Left::choose::<(Seen<Session<K>>, &[u8]), Session<K>, Brand>(
+            &(before, &piece[..n]),
+            session,
+        );
     }
     n
 }

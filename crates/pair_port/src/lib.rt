@@ -1,4 +1,5 @@
-//! A device over a disk, as the port that a host sees, and the port that goes to such a device or to an address.
+//! A device over a disk, as the port that a host sees, and the port that goes to such a device or to an
+//! address.
 #![tactic(auto)]
 
 pub mod any_port;

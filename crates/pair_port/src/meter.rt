@@ -25,14 +25,14 @@ impl Model for Meter {
     ghost Value = { Counters };
 
     ghost view = { λ m. record {
-        sizes = m.sizes.items;
-        turn = m.turn;
-        breaks = m.breaks.items;
-        begun = m.begun;
-        remaining = m.remaining;
-        broken = m.broken;
-        refused = m.refused;
-        ended = m.ended;
+      sizes = m.sizes.items;
+      turn = m.turn;
+      breaks = m.breaks.items;
+      begun = m.begun;
+      remaining = m.remaining;
+      broken = m.broken;
+      refused = m.refused;
+      ended = m.ended;
     } };
 
     ghost invariant = { λ m. All (λ size. 1 ≤ size) m.sizes.items × (m.turn ≤ length m.sizes.items) };

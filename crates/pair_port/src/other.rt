@@ -95,8 +95,8 @@ impl<K: Disk> Other<K> {
         }
     }
 
-    /// Begins a connection with the device apart, and answers whether there is one now. There is exactly where
-    /// the device is in a mode for it.
+    /// Begins a connection with the device apart, and answers whether there is one now. There is exactly
+    /// where the device is in a mode for it.
     pub fn up(self, _unused: ()) -> (Other<K>, bool)
         requires typed { IsTypedEnd self }
         requires apart { OfHeld (λ _. Unit {0}) (end_of self) }

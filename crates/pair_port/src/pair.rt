@@ -23,8 +23,8 @@ use fb_link::port::{AimError, LinkFault};
 use std::alloc::Global;
 use std::marker::{Brand, Model};
 
-/// A port over the images of a disk. Its other end is a session with the device of the image that it was aimed at
-/// last, over connections that are cut and break as it was made.
+/// A port over the images of a disk. Its other end is a session with the device of the image that it was
+/// aimed at last, over connections that are cut and break as it was made.
 #[derive(Drop)]
 pub struct PairPort<K: Disk> {
     other: Other<K>,
@@ -59,8 +59,8 @@ impl<K: Disk> PairPort<K> {
         }
     }
 
-    /// Gives the disk back. The image that the port was aimed at last stands for the device that it tells; of a
-    /// device that halted only where what failed writes left is honest.
+    /// Gives the disk back. The image that the port was aimed at last stands for the device that it tells; of
+    /// a device that halted only where what failed writes left is honest.
     pub fn into_disk(self) -> K
         ensures disk { result ≡ disk_of self.end }
         ensures running { IsUnhalted (pair_told K.told self).peer → HoldsDevice (pair_told K.told self) }
@@ -136,8 +136,8 @@ impl<K: Disk> PairPort<K> {
         replace_with(&mut self.other, (), Other::down)
     }
 
-    /// Passes a front of the bytes to the session. A call with bytes to pass fails exactly where the connection
-    /// breaks before them or the session takes none.
+    /// Passes a front of the bytes to the session. A call with bytes to pass fails exactly where the
+    /// connection breaks before them or the session takes none.
     pub fn pass(&mut self, bytes: &[u8]) -> Result<usize, LinkFault>
         requires up { IsTrue (is_up self.old.end) }
         ensures within { IfOk result (λ n. n ≤ length bytes.now) }

@@ -29,7 +29,8 @@ const REBOOT: Talk = Talk {
 /// A disk with the image of a plain device.
 fn plain_disk(alloc: Global) -> Result<MemoryDisk, Fail> {
     let mut disk = MemoryDisk::new(alloc, Vec::new(alloc))?;
-    let text = b"fbdevice 1\nproduct falcon\nserialno S1\nslots 0\nmax-download 131072\npartition boot 16384\n";
+    let text =
+        b"fbdevice 1\nproduct falcon\nserialno S1\nslots 0\nmax-download 131072\npartition boot 16384\n";
     let Ok(layout) = read_layout(alloc, text) else {
         return Err(Fail::from("a layout"));
     };
@@ -149,7 +150,10 @@ fn aims_and_reboots(rt: HostRuntime) -> Result<(), Fail> {
         assert_eq!(rt; port.is_aimed(), want == "aimed");
     }
     assert!(rt; connects(&mut port));
-    assert_eq!(rt; exchange(&mut port, REBOOT), REBOOT.said.len() + REBOOT.answered.len());
+    assert_eq!(rt;
+        exchange(&mut port, REBOOT),
+        REBOOT.said.len() + REBOOT.answered.len()
+    );
     assert!(rt; !connects(&mut port));
     let disk = port.into_disk();
     assert_eq!(rt; disk.file("image").map(|file| file.len()), Some(28_672));

@@ -1,5 +1,6 @@
 //! The programs' top calls over real files.
 
+use crate::cutting::Cutting;
 use dev_disk::file::FileDisk;
 use device_session::script_gate::ScriptGate;
 use device_top::device::device_main;
@@ -8,23 +9,11 @@ use flash_plan::folder_dir::FolderDir;
 use host_top::host::host_main;
 use pair_port::pair::PairPort;
 
-use crate::cutting::Cutting;
-
 /// Runs fbdevice with these words, over a gate by which nobody comes.
-pub fn run_device<S: Sink>(
-    rt: &HostRuntime,
-    words: &[String],
-    out: &mut S,
-) -> anyhow::Result<u8> {
+pub fn run_device<S: Sink>(rt: &HostRuntime, words: &[String], out: &mut S) -> anyhow::Result<u8> {
     let alloc = rt.alloc();
     let mut disk = FileDisk::new(rt);
-    let mut gate = ScriptGate::new(
-        alloc,
-        Vec::new(alloc),
-        Vec::new(alloc),
-        Vec::new(alloc),
-        0,
-    )?;
+    let mut gate = ScriptGate::new(alloc, Vec::new(alloc), Vec::new(alloc), Vec::new(alloc), 0)?;
     Ok(device_main(alloc, words, &mut disk, &mut gate, out))
 }
 

@@ -10,21 +10,28 @@
 //! - `each FIRST LAST STEP FRESH IMAGE WORDS..`: fbflash with these words on a copy of an image, once for each
 //!   number of bytes after which its first connection breaks, from the first one by steps to the last; each
 //!   outcome is shown once, with the device that it leaves
+//! - `served COUNT IMAGE WORDS..`: fbdevice serves the image over TCP to so many connections; the first only waits
+//!   until it does, and the others are those of fbflash with these words, in a process of its own
 //! - `spoil FILE PLACE BYTE`, `cut FILE COUNT`, `copy FILE OTHER`, `remove FILE`: the file gets another byte at
 //!   a place, is cut to so many bytes, is copied, or is gone
+//!
+//! With words of its own the program is that process: fbflash with these words, over TCP.
 #![tactic(auto)]
 
 mod calls;
 mod cutting;
 mod each;
 mod files;
+mod over_tcp;
 
 use crate::calls::{run_device, run_host};
 use crate::cutting::{Cutting, breaks_of, sizes_of};
 use crate::each::{Range, run_each};
+use crate::over_tcp::{run_flash, run_served};
 use fb_frame::write_sink::WriteSink;
 use std::alloc::{AllocError, Global};
 use std::io::{BufRead, BufReader};
+use word_rules::arguments;
 
 /// The words of a line.
 fn words_of(alloc: Global, line: &str) -> Result<Vec<String>, AllocError> {
@@ -48,6 +55,14 @@ fn run_breaks(rt: &HostRuntime, words: &[String]) -> anyhow::Result<()> {
     run_each(rt, fresh.as_str(), image.as_str(), words, &range)
 }
 
+/// An installation over TCP.
+fn serve(rt: &HostRuntime, words: &[String]) -> anyhow::Result<()> {
+    let [count, image, words @ ..] = words else {
+        return Ok(());
+    };
+    run_served(rt, count.as_str(), image.as_str(), words)
+}
+
 /// Does what a line says.
 fn run_line(rt: &HostRuntime, words: &[String], cutting: &mut Cutting) -> anyhow::Result<()> {
     let alloc = rt.alloc();
@@ -64,6 +79,7 @@ fn run_line(rt: &HostRuntime, words: &[String], cutting: &mut Cutting) -> anyhow
             println!(rt; "{status}")?;
         }
         "each" => run_breaks(rt, rest)?,
+        "served" => serve(rt, rest)?,
         "sizes" => cutting.sizes = sizes_of(alloc, rest)?,
         "breaks" => cutting.breaks = breaks_of(alloc, rest)?,
         word => files::change(rt, word, rest)?,
@@ -73,6 +89,10 @@ fn run_line(rt: &HostRuntime, words: &[String], cutting: &mut Cutting) -> anyhow
 
 fn main(rt: HostRuntime) -> anyhow::Result<()> {
     let alloc = rt.alloc();
+    let own = arguments::words_of(&rt)?;
+    if !own.is_empty() {
+        return run_flash(&rt, own.as_slice());
+    }
     let mut cutting = Cutting::new(alloc);
     for line in BufReader::new(alloc, rt.reader())?.lines(alloc) {
         let line = line?;

@@ -15,7 +15,8 @@ const LAYOUT: &[u8; 87] =
 
 /// A host of bash's, which waits up to ten seconds until the port listens, asks for the product, and prints the
 /// 22 bytes that it hears.
-const HOST: &str = "for i in {1..100}; do exec 3<>/dev/tcp/127.0.0.1/$0 && break; sleep 0.1; done 2>/dev/null
+const HOST: &str =
+    "for i in {1..100}; do exec 3<>/dev/tcp/127.0.0.1/$0 && break; sleep 0.1; done 2>/dev/null
 printf 'FB01\\0\\0\\0\\0\\0\\0\\0\\016getvar:product' >&3 && head -c 22 <&3";
 
 fn words(alloc: Global, texts: &[&str]) -> Result<Vec<String>, AllocError> {
@@ -57,12 +58,22 @@ fn serves_over_loopback(rt: HostRuntime) -> Result<(), Fail> {
     let host = start(alloc, &rt, port.as_str())?;
     let serve = words(
         alloc,
-        &["serve", "dev.img", "--port", port.as_str(), "--connections", "1"],
+        &[
+            "serve",
+            "dev.img",
+            "--port",
+            port.as_str(),
+            "--connections",
+            "1",
+        ],
     )?;
     let served = device_main(alloc, serve.as_slice(), &mut disk, &mut gate, &mut out);
     assert_eq!(rt; served, 0);
     assert_eq!(rt; out.text(), b"made 28672\nserved 1\n".as_slice());
     let heard = host.wait_with_output(alloc)?;
-    assert_eq!(rt; heard.stdout.as_slice(), b"FB01\0\0\0\0\0\0\0\nOKAYfalcon".as_slice());
+    assert_eq!(rt;
+        heard.stdout.as_slice(),
+        b"FB01\0\0\0\0\0\0\0\nOKAYfalcon".as_slice()
+    );
     Ok(())
 }

@@ -14,7 +14,7 @@ returns-in-Ok-clause-call g c =
     let n = c.do_asked.new in
     subst
     (λ asked. IsCall asked c.do_asked.result (sides (told c.args.disk.now) (gate c.args.gate.now) (output (text c.args.out.now) (faults c.args.out.now)))
-        (sides (told n.disk) (gate n.gate) (output (text n.out) (faults n.out))))
+    (sides (told n.disk) (gate n.gate) (output (text n.out) (faults n.out))))
     (sym c.in-Ok.ensures.asked) c.do_asked.ensures.call
 
 pub returns-in-Err-clause-call : goal.returns-in-Err-clause-call

@@ -25,7 +25,7 @@ flash_all-requires g c = record {
 pub get_var-requires : goal.get_var-requires
 get_var-requires g c =
     let fit : length c.in-GetVar.name ≤ 4089 = c.requires.fit (GetVar (place_of c.target-aim-in-GetVar.result) c.in-GetVar.name)
-        (question-read c.args.words.now c.in-Some.target c.in-GetVar.name (place_of c.target-aim-in-GetVar.result) c.in-Some.is c.in-GetVar.is c.target-aim-in-GetVar.ensures) in
+    (question-read c.args.words.now c.in-Some.target c.in-GetVar.name (place_of c.target-aim-in-GetVar.result) c.in-Some.is c.in-GetVar.is c.target-aim-in-GetVar.ensures) in
     record { short = subst (λ name. length name ≤ 4089) (sym c.as_bytes.ensures.value) (subst (λ name. length name ≤ 4089) (sym c.as_str-in-GetVar.ensures) fit) }
 
 pub returns-in-GetVar-clause-ends : goal.returns-in-GetVar-clause-ends
