@@ -101,12 +101,14 @@ service path port most ended = record { path = path; port = port; most = most; e
 
 -- What serving an opened device did to gate and disk, by the image that is open.
 pub record HasRun (dev : Dev) (s : Service) (old new : DiskTold) (gates : GateTold × GateTold) : Type 0 where
-  pub serves : Both (IsServed (record { dev = dev; most = s.most; status = run_status s.ended; image = open_bytes new })
+  pub serves : Both (IsServed
+      (record { dev = dev; most = s.most; status = run_status s.ended; image = open_bytes new })
       (Rose old.faults new.faults) (IsHonest new.torn)) gates.0.connections gates.1.connections
   pub stands : IsHonest new.torn → IfSome (open_bytes new) (λ file. (left : Dev) × Stands file left)
   pub counted : Counts s.ended gates.0 gates.1
   pub kept : Listening s.port (run_status s.ended) gates.0 gates.1
-  pub stops : IfErr s.ended (IsServeStop (Rose gates.0.unaccepted gates.1.unaccepted) (Rose old.faults new.faults))
+  pub stops : IfErr s.ended
+      (IsServeStop (Rose gates.0.unaccepted gates.1.unaccepted) (Rose old.faults new.faults))
 
 -- What serving the image of a path did, whose device was opened.
 pub record HasServed (s : Service) (old new : DiskTold) (a b : GateTold) : Type 0 where

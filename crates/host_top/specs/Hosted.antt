@@ -119,7 +119,8 @@ abbrev pub Leaves : Option Request → Outside → Outside → ℕ → Type 0
 Leaves (Some (FlashAll place dir options)) old new status =
     IsSamePort old.port new.port
     ⊎ IsAstray old.port new.port place
-    ⊎ (IsTurned place old new × OnJobOf (Some (FlashAll place dir options)) old new (LeftBehind old new status))
+    ⊎ (IsTurned place old new
+    × OnJobOf (Some (FlashAll place dir options)) old new (LeftBehind old new status))
 Leaves (Some (GetVar place name)) old new status =
     IsSamePort old.port new.port
     ⊎ IsAstray old.port new.port place

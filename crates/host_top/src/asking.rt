@@ -38,7 +38,8 @@ fn question<P: Port, S: Sink>(
     ensures answered { IsAnswered name.now (seen (P.told port) (S.text out.old))
         (seen (P.told result.0) (S.text out.new)) result.1 }
     ensures later { S.faults out.old ≤ S.faults out.new }
-    ensures output { IfErr result.1 (λ e. e ≡ DriveError.Output → Rose (S.faults out.old) (S.faults out.new)) }
+    ensures output { IfErr result.1 (λ e. e ≡ DriveError.Output →
+        Rose (S.faults out.old) (S.faults out.new)) }
 {
     let ready = match begin(Lost::new(port)) {
         Ok(ready) => ready,

@@ -281,7 +281,8 @@ fn put_words<S: Sink>(verdict: Verdict<'_>, out: &mut S) -> Result<(), SinkFault
 /// Puts the last line.
 #[tactic(auto, using(fb_frame::proofs::SinkLemmas::sink_lines, crate::proofs::LineLemmas::line_parts))]
 pub(crate) fn put_last_line<S: Sink>(verdict: Verdict<'_>, out: &mut S) -> Result<(), SinkFault>
-    ensures put { OnOk result (Grew (S.text out.old) (S.text out.new) (last_line (verdict_in verdict.entry))) }
+    ensures put { OnOk result
+        (Grew (S.text out.old) (S.text out.new) (last_line (verdict_in verdict.entry))) }
     ensures part { OnErr result
         (GrewPart (S.text out.old) (S.text out.new) (last_line (verdict_in verdict.entry))) }
     ensures cause { HasCause (S.faults out.old) (S.faults out.new) result }

@@ -67,7 +67,8 @@ fn front(kept: &[u8]) -> &[u8]
 /// Puts the first kept bytes in lower-case hexadecimal.
 pub(crate) fn put_hex<S: Sink>(kept: &[u8], out: &mut S) -> Result<(), SinkFault>
     ensures put { OnOk result (Grew (S.text out.old) (S.text out.new) (encode_lower (take 32 kept.now))) }
-    ensures part { OnErr result (GrewPart (S.text out.old) (S.text out.new) (encode_lower (take 32 kept.now))) }
+    ensures part { OnErr result
+        (GrewPart (S.text out.old) (S.text out.new) (encode_lower (take 32 kept.now))) }
     ensures cause { HasCause (S.faults out.old) (S.faults out.new) result }
 {
     let kept = front(kept);

@@ -54,7 +54,8 @@ impl<K: Disk> Other<K> {
     pub fn aim(self, target: (Global, &str)) -> (Other<K>, Result<(), AimError>)
         ensures opens { OnOk result.1 (OpensEnd K.told (end_of self) (end_of result.0) target.entry.1.now) }
         ensures ready { OnOk result.1 ((left : Dev) → IsReadyEnd K.told (end_of result.0) left) }
-        ensures misses { OnErr result.1 (MissesEnd K.told (end_of self) (end_of result.0) target.entry.1.now) }
+        ensures misses { OnErr result.1
+            (MissesEnd K.told (end_of self) (end_of result.0) target.entry.1.now) }
         ensures typed { IsTypedEnd result.0 }
         ensures absent { IsErrOf result.1 AimError.NoTarget →
             IsAbsent (K.told (disk_of (end_of self))).files target.entry.1.now }
