@@ -6,6 +6,7 @@ use Rattle.host_driver.specs.Jobs.{Outside}
 use Rattle.host_words.specs.Requests.{Request, FlashAll, GetVar, Sample}
 use Rattle.host_top.specs.Ending.{Ends}
 use Rattle.host_top.specs.Hosted.{Follows, Lasts, Hosted}
+use Rattle.host_top.proofs.CompletingLemmas.{reports-complete}
 use Rattle.host_top.proofs.EarlyLemmas.{unused-follows, flash-unaimed, question-unaimed}
 use Rattle.host_top.proofs.QuestionLemmas.{question-follows}
 use Rattle.host_top.proofs.LeftLemmas.{led-follows}
@@ -28,4 +29,4 @@ ends-follow (Some (GetVar place name)) old new status e = question-ends place na
 ends-follow (Some (Sample n)) old new status u = unused-follows (Some (Sample n)) old new status (λ s. s) u
 
 pub hosted : (request : Option Request) (old new : Outside) (status : ℕ) → Ends request old new status → Lasts old new → Hosted request old new status
-hosted request old new status e l = record { ends = e; lasts = l; follows = ends-follow request old new status e; reported = ends-report request old new status e }
+hosted request old new status e l = record { ends = e; lasts = l; follows = ends-follow request old new status e; reported = ends-report request old new status e; completed = reports-complete request old new status (ends-report request old new status e) }

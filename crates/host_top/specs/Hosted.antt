@@ -24,6 +24,7 @@ use Rattle.host_driver.specs.Printing.{Lines, Attempt, in_order, steps_in, text_
 use Rattle.host_driver.specs.Printing.{retry_line}
 use Rattle.host_driver.specs.Wires.{IsWire, LogGrew}
 use Rattle.host_words.specs.Requests.{Request, FlashAll, GetVar, Sample, target_of}
+use Rattle.host_top.specs.Completing.{Completes}
 use Rattle.host_top.specs.Ending.{Ends, IsSamePort, IsTurned}
 use Rattle.host_top.specs.Outcomes.{Outcome, outcome_of, status_of_outcome}
 use Rattle.host_top.specs.Subjects.{IsRefused, IsElsewhere, KeepsBeside}
@@ -251,3 +252,4 @@ pub record Hosted (request : Option Request) (old new : Outside) (status : ℕ) 
   pub lasts : Lasts old new
   pub follows : Follows request old new status
   pub reported : Reports request old new status
+  pub completed : Completes request old new status

@@ -2,7 +2,6 @@
 #![tactic(auto)]
 
 ghost use Rattle.host_top.specs.Calm.{CalmReports};
-ghost use Rattle.host_top.specs.Completing.{CallCompletes, CallIsRefused};
 ghost use Rattle.host_top.specs.Rows.{FlashRows, OtherRows};
 
 mod asking;
@@ -19,8 +18,6 @@ mod verdict;
 /// The laws of calls in which nothing fails.
 pub fn laws()
     ensures calm_reports { CalmReports }
-    ensures call_completes { CallCompletes }
-    ensures call_is_refused { CallIsRefused }
 {}
 
 /// Worked examples of what calls come to.

@@ -1,6 +1,5 @@
 use Rattle.host_top.proofs.CalmLemmas.{calm_reports}
-use Rattle.host_top.proofs.CompletingLemmas.{call_completes, call_is_refused}
 use Rattle.host_top.proofs.laws.Goals as goal
 
 pub returns : goal.returns
-returns c = record { calm_reports = calm_reports; call_completes = call_completes; call_is_refused = call_is_refused }
+returns c = record { calm_reports = calm_reports }
