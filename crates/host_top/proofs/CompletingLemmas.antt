@@ -56,7 +56,9 @@ module _ (place : Place) (dir : List ℕ) (j : Job) (plan : List Step) (old new 
   completes-by = record { done = λ t e. at 0 (done-status j plan t made_so e); refused = λ e. at 7 (stopped-status j plan made_so (stops e)) }
 
 completes-job : (place : Place) (dir : List ℕ) (options : Options) (old new : Outside) (status : ℕ) → Reports (Some (FlashAll place dir options)) old new status → IsQuiet old new → (j : Job) (plan : List Step) → j.options ≡ options → IsJobOf place dir options old j → made j ≡ Some plan → CompletesBy j plan status
-completes-job place dir options old new status r quiet j plan refl job made_so = completes-by place dir j plan old new status job quiet made_so r
+completes-job place dir options old new status r quiet j plan e job made_so =
+    completes-by place dir j plan old new status (subst (λ o. IsJobOf place dir o old j) (sym e) job) quiet made_so
+    (subst (λ o. Reports (Some (FlashAll place dir o)) old new status) (sym e) r)
 
 pub reports-complete : (request : Option Request) (old new : Outside) (status : ℕ) → Reports request old new status → Completes request old new status
 reports-complete None old new status r = tt

@@ -75,6 +75,13 @@ impl Meter {
         }
     }
 
+    /// How many calls met a break, at most the last number of 64 bits.
+    pub fn broken(&self) -> u64
+        ensures broken { result ≡ self.now.broken }
+    {
+        self.broken
+    }
+
     /// Whether no byte may pass any more.
     pub fn is_spent(&self) -> bool
         ensures spent { result ≡ is_spent self.now.remaining }

@@ -70,6 +70,13 @@ impl<K: Disk> PairPort<K> {
         self.other.into_disk()
     }
 
+    /// How many calls met a break, at most the last number of 64 bits.
+    pub fn broken(&self) -> u64
+        ensures broken { result ≡ self.now.counters.broken }
+    {
+        self.meter.broken()
+    }
+
     /// Whether there is a device at the other end.
     pub fn is_aimed(&self) -> bool
         ensures aimed { result ≡ is_aimed self.now.end }

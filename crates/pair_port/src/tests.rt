@@ -155,6 +155,7 @@ fn aims_and_reboots(rt: HostRuntime) -> Result<(), Fail> {
         REBOOT.said.len() + REBOOT.answered.len()
     );
     assert!(rt; !connects(&mut port));
+    assert_eq!(rt; port.broken(), 0);
     let disk = port.into_disk();
     assert_eq!(rt; disk.file("image").map(|file| file.len()), Some(28_672));
     Ok(())
