@@ -46,11 +46,12 @@ pub fn run_each(
     words: &[String],
     range: &Range,
 ) -> anyhow::Result<()> {
+    let step = range.step.max(1);
     let mut begun = range.first;
     let mut text = tried(rt, fresh, image, words, begun)?;
     let mut place = range.first;
     while place < range.last {
-        let next = place.saturating_add(range.step).min(range.last);
+        let next = place.saturating_add(step).min(range.last);
         let other = tried(rt, fresh, image, words, next)?;
         if other.text() != text.text() {
             show(rt, begun, place, &text)?;

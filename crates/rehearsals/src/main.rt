@@ -50,7 +50,7 @@ fn run_breaks(rt: &HostRuntime, words: &[String]) -> anyhow::Result<()> {
     let range = Range {
         first: first.as_str().parse::<u64>()?,
         last: last.as_str().parse::<u64>()?,
-        step: step.as_str().parse::<u64>()?.max(1),
+        step: step.as_str().parse::<u64>()?,
     };
     run_each(rt, fresh.as_str(), image.as_str(), words, &range)
 }
