@@ -106,13 +106,22 @@ fn hear(port: &mut PairPort<MemoryDisk>, bytes: &[u8]) -> usize
     at
 }
 
+/// The first four bytes, or all where they are fewer, and those behind.
+fn parted(bytes: &[u8]) -> (&[u8], &[u8]) {
+    bytes.split_at(bytes.len().min(4))
+}
+
 /// One connection with a command and its answer, and how many bytes passed both ways.
 fn exchange(port: &mut PairPort<MemoryDisk>, talk: Talk) -> usize {
-    let first = say(port, &talk.said[..4]) + hear(port, &talk.answered[..4]);
+    let (hello, command) = parted(talk.said);
+    let (greeting, reply) = parted(talk.answered);
+    let first = say(port, hello).saturating_add(hear(port, greeting));
     if first < 8 {
         return first;
     }
-    first + say(port, &talk.said[4..]) + hear(port, &talk.answered[4..])
+    first
+        .saturating_add(say(port, command))
+        .saturating_add(hear(port, reply))
 }
 
 /// Begins a connection where there is a device in a mode for it.
