@@ -1,18 +1,17 @@
 -- What fbflash's call over a port in memory comes to, told of the images.
-use Rattle.std.proofs.Common.{◌≡◌, ◌≢◌, ◌⊎◌, inl, inr, ℕ, suc, ◌+◌, ◌≤◌, Bool, true, false, Option, Some, None, List, [], ◌∷◌, ◌++◌, length, map, IsTrue, refl, sym, ap, ◌∙◌, subst, arith}
-use Rattle.std.specs.Prelude.{Result, Ok, Err, not, bytes_eq}
+use Rattle.std.proofs.Common.{◌≡◌, ◌⊎◌, inl, inr, ℕ, suc, ◌+◌, ◌≤◌, Bool, Option, Some, None, List, [], ◌∷◌, ◌++◌, length, map, IsTrue, refl, sym, ap, ◌∙◌, subst, zero-add}
+use Rattle.std.specs.Prelude.{Result, Ok, Err, not}
 use Rattle.std.proofs.lemmas.Slice.Eq.{bytes_eq-Decides}
 use Rattle.fb_frame.specs.Sinks.{Grew}
 use Rattle.fb_frame.proofs.SinkLemmas.{Grew-append}
 use Rattle.dev_disk.specs.declared.memory.MemoryDisk.{MemoryDisk}
 use Rattle.dev_disk.specs.Files.{Files as Images}
-use Rattle.dev_disk.specs.Memory.{memory_told, memory_files}
+use Rattle.dev_disk.specs.Memory.{memory_told, memory_files, memory_faults}
 use Rattle.dev_model.specs.declared.device.Dev.{Dev}
 use Rattle.dev_model.specs.declared.step.Step.{Step}
 use Rattle.dev_store.specs.Faults.{unchanged_is_honest}
 use Rattle.wire_told.specs.Peers.{Peer, device_of}
-use Rattle.wire_told.specs.Places.{Place, ImageAt, TcpAt, Stand, Device, Bad, Nothing, Stands}
-use Rattle.wire_told.specs.Ports.{PortTold, IsAstray}
+use Rattle.wire_told.specs.Places.{Place, ImageAt, TcpAt, Stand, Device, Bad, Nothing}
 use Rattle.flash_plan.specs.declared.options.Options.{Options}
 use Rattle.flash_plan.specs.declared.product.Product.{Product}
 use Rattle.flash_plan.specs.Files.{Files}
@@ -24,19 +23,34 @@ use Rattle.host_driver.specs.Driven.{made}
 use Rattle.host_driver.specs.Driving.{Caused, Drove, MayRetry, moved, LinkFailed}
 use Rattle.host_driver.specs.Jobs.{Outside, outside, Folder, folder, Job, job, order, Has, last_in}
 use Rattle.host_driver.specs.Printing.{Attempt, PrintsBy, EndsBy, is_answered, steps_in, text_of, lines_of}
-use Rattle.host_words.specs.Requests.{Request, FlashAll, GetVar, Sample, target_of}
+use Rattle.host_words.specs.Requests.{Request, FlashAll, GetVar, Sample}
 use Rattle.host_top.specs.Completing.{IsJobOf, IsQuiet, CompletesBy}
-use Rattle.host_top.specs.Ending.{EndsEarly, EndsInFolder, EndsAstray, EndsOpened, IsSamePort, IsTurned, IsMet, IsOpened, Led, LedOver, OnAimed, Shows, ShowsLast, Unused, Unaimed, with_text}
-use Rattle.host_top.specs.Hosted.{Hosted, Follows, Leaves, LeftBehind, OfProduct, OfStand, OnFolder, IsStill}
-use Rattle.host_top.specs.Subjects.{is_elsewhere, KeepsBeside}
+use Rattle.host_top.specs.Ending.{EndsInFolder, EndsAstray, EndsOpened, IsTurned, IsOpened, Led, LedOver, OnAimed, Shows, ShowsLast, Unused, with_text}
+use Rattle.host_top.specs.Hosted.{Hosted, Leaves, LeftBehind, OfProduct, OfStand, OnFolder}
+use Rattle.host_top.specs.Subjects.{KeepsBeside}
 use Rattle.host_top.specs.Verdicts.{Verdict, Done, NoMemory, NoFolder, Flawed, NoLink, Unmet, Refusing, NoPeer, TooManyLines, NoPlan, NoDevice, last_line, status_of, verdict_of}
+use Rattle.pair_port.specs.Counters.{Counters, new_counters}
 use Rattle.pair_port.specs.Pairs.{Pair, disk_of, stand_in, pair_told}
 use Rattle.pair_port.specs.Stood.{HoldsDevice, IsStand, StandsBy, stand_at}
-use Rattle.host_memory.specs.Rehearsals.{Scene, scene, IsJobAt, IsReported, IsInstalled, IsLeft, IsSameAt, IsKept, LeavesImage, KeepsImages, counts, went, IsUndisturbed, CompletesAt}
+use Rattle.host_memory.specs.Rehearsals.{Scene, scene, IsInstalled, IsLeft, IsSameAt, IsKept, LeavesImage, KeepsImages, counts, went, IsUndisturbed, CompletesAt, OfFlash}
 use Rattle.host_memory.proofs.StandLemmas.{runs-at}
 
-some-inj : {X : Type 0} (a b : X) → Some a ≡ Some b → a ≡ b
+pub some-inj : {X : Type 0} (a b : X) → Some a ≡ Some b → a ≡ b
 some-inj a b e = cc
+
+pub both-at : {X : Type 0} (P : X → X → Type 0) (a b x y : X) → a ≡ b → x ≡ y → P a x → P b y
+both-at P a b x y e f h = subst (λ z. P z y) e (subst (λ z. P a z) f h)
+
+-- the count of a new port's faults is its disk's, and that of a port is the number of its breaks and its disk's
+pub faults-from : (p : Pair MemoryDisk) (sizes : List ℕ) (breaks : List (Option ℕ)) (disk : MemoryDisk) → p.counters ≡ new_counters sizes breaks → disk_of p.end ≡ disk →
+    p.counters.broken + memory_faults (disk_of p.end) ≡ memory_faults disk
+faults-from p sizes breaks disk c e =
+    subst (λ (k : Counters). k.broken + memory_faults (disk_of p.end) ≡ memory_faults disk) (sym c) (zero-add (memory_faults (disk_of p.end)) ∙ ap (λ (d : MemoryDisk). memory_faults d) e)
+
+pub faults-to : (q : Pair MemoryDisk) (n : ℕ) (disk : MemoryDisk) → n ≡ q.counters.broken → disk_of q.end ≡ disk →
+    q.counters.broken + memory_faults (disk_of q.end) ≡ n + memory_faults disk
+faults-to q n disk c e =
+    ap (λ (k : ℕ). k + memory_faults (disk_of q.end)) (sym c) ∙ ap (λ (d : MemoryDisk). n + memory_faults d) e
 
 length-steps : (attempts : List Attempt) → length (map steps_in attempts) ≡ length attempts
 length-steps [] = refl
@@ -54,7 +68,7 @@ never v a b k status e (inr p) z = zero-not 8 (sym z ∙ p.0)
     zero-not n q = absurd cc
 
 -- an installation that ends with 0 is done
-IsDone : Result DoneSo DriveError → Type 0
+abbrev IsDone : Result DoneSo DriveError → Type 0
 IsDone outcome = (done : DoneSo) × (outcome ≡ Ok done)
 
 done-by : (outcome : Result DoneSo DriveError) (a b : Option (List ℕ)) (status : ℕ) → ShowsLast (verdict_of outcome) a b status → status ≡ 0 → IsDone outcome
@@ -135,9 +149,9 @@ module _ (p q : Pair MemoryDisk) (at : List ℕ) (files : Files) (entered : Bool
       from-drove s b stood peer d =
           let j = job (order product options) files s in
           let c : Caused j (moved old new) l.course.numbers (device_of b) (Ok done) =
-              subst (λ x. Caused j (moved old new) l.course.numbers (device_of b) x) ended d.caused in
+          subst (λ x. Caused j (moved old new) l.course.numbers (device_of b) x) ended d.caused in
           let t : PrintsBy (lines_of j) (MayRetry j (moved old (with_text l.mid new)) (device_of b)) d.prints.attempts (record l.course { outcome = Ok done }) (Grew text l.mid) =
-              subst (λ x. PrintsBy (lines_of j) (MayRetry j (moved old (with_text l.mid new)) (device_of b)) d.prints.attempts (record l.course { outcome = x }) (Grew text l.mid)) ended d.prints.text in
+          subst (λ x. PrintsBy (lines_of j) (MayRetry j (moved old (with_text l.mid new)) (device_of b)) d.prints.attempts (record l.course { outcome = x }) (Grew text l.mid)) ended d.prints.text in
           let e : EndsBy (Ok done) (last_in d.prints.attempts) = subst (λ x. EndsBy x (last_in d.prints.attempts)) ended d.prints.ends in
           let g = shown-done done l.mid now status (subst (λ x. ShowsLast (verdict_of x) l.mid now status) ended l.shows) z in
           record {
@@ -233,3 +247,19 @@ module _ (p q : Pair MemoryDisk) (at : List ℕ) (files : Files) (entered : Bool
   pub keeps-images : (target : Option Place) → KeepsBeside target old.port.stands new.port.stands → KeepsImages target before after
   keeps-images None k = λ path other. same-at path k
   keeps-images (Some place) k = λ path other. some-inj (stand_in (after path)) (stand_in (before path)) (k (ImageAt path) other)
+
+  -- by the whole of what a call comes to
+  pub installs : (request : Option Request) (status : ℕ) → Hosted request old new status → OfFlash request (λ path dir options. status ≡ 0 → IsInstalled path options seen)
+  installs None status h = tt
+  installs (Some (FlashAll (ImageAt path) dir options)) status h = from-end path dir options status h.ends
+  installs (Some (FlashAll (TcpAt host port) dir options)) status h = tt
+  installs (Some (GetVar place name)) status h = tt
+  installs (Some (Sample n)) status h = tt
+
+  pub completes-by : (request : Option Request) (status from to : ℕ) → Hosted request old new status → old.port.faults ≡ from → new.port.faults ≡ to →
+      OfFlash request (λ path dir options. dir ≡ at → IsUndisturbed (went (counts from faults unput) (counts to later.faults more)) → CompletesAt path options seen status)
+  completes-by None status from to h ef et = tt
+  completes-by (Some (FlashAll (ImageAt path) dir options)) status from to h ef et = λ here. completes path dir options status from to ef et (sym here) h.completed
+  completes-by (Some (FlashAll (TcpAt host port) dir options)) status from to h ef et = tt
+  completes-by (Some (GetVar place name)) status from to h ef et = tt
+  completes-by (Some (Sample n)) status from to h ef et = tt

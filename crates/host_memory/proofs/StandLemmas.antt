@@ -16,8 +16,8 @@ abbrev Runs : Dev → Type 0
 Runs dev = IsTrue (is_fastboot dev.mode)
 
 starts : (userspace : Bool) → IsTrue (is_fastboot (start_mode userspace))
-starts true = tt
-starts false = tt
+starts true = refl
+starts false = refl
 
 -- what holds of every next value holds of the one that comes out
 then-ok : {X Y E : Type 0} (P : Y → Type 0) (r : Result X E) (next : X → Result Y E) → ((x : X) → IfOk (next x) P) → IfOk (r then_on next) P
