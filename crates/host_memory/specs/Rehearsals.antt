@@ -5,8 +5,11 @@ use Rattle.fb_frame.specs.Sinks.{Grew}
 use Rattle.dev_model.specs.declared.device.Dev.{Dev}
 use Rattle.dev_model.specs.declared.step.Step.{Step}
 use Rattle.dev_model.specs.Steps.{run}
+use Rattle.dev_disk.specs.declared.memory.MemoryDisk.{MemoryDisk}
 use Rattle.dev_disk.specs.Files.{Files as Images}
+use Rattle.dev_disk.specs.Memory.{memory_told}
 use Rattle.wire_told.specs.Places.{Place, ImageAt, Device}
+use Rattle.wire_told.specs.Ports.{PortTold}
 use Rattle.flash_plan.specs.declared.options.Options.{Options}
 use Rattle.flash_plan.specs.Files.{Files}
 use Rattle.flash_plan.specs.Products.{product_of}
@@ -17,8 +20,8 @@ use Rattle.host_driver.specs.Printing.{Attempt, in_order, is_answered, steps_in,
 use Rattle.host_words.specs.Requests.{Request, FlashAll, GetVar}
 use Rattle.host_top.specs.Completing.{CompletesBy}
 use Rattle.host_top.specs.Verdicts.{Done, last_line}
-use Rattle.pair_port.specs.Pairs.{stand_in}
-use Rattle.pair_port.specs.Stood.{IsStand}
+use Rattle.pair_port.specs.Pairs.{Pair, Alone, disk_of, pair_told, stand_in}
+use Rattle.pair_port.specs.Stood.{HoldsDevice, IsStand}
 
 -- what the folder holds, the images before and after, and the text before and after
 pub record Scene : Type 0 where
@@ -113,3 +116,14 @@ pub record IsUndisturbed (m : Moved) : Type 0 where
 abbrev pub CompletesAt : List ℕ → Options → Scene → ℕ → Type 0
 CompletesAt path options scene status =
     (j : Job) (plan : List Step) → IsJobAt path options scene j → made j ≡ Some plan → CompletesBy j plan status
+
+-- A relation of what a port over the disk told at first and what it told at the end, when its last target stood
+-- for the device that it told; so many of its calls met a break.
+pub record OverPort (before after : MemoryDisk) (broken : ℕ) (R : PortTold → PortTold → Type 0) : Type 0 where
+  pub first : Pair MemoryDisk
+  pub alone : first.end ≡ Alone before
+  pub last : Pair MemoryDisk
+  pub disk : disk_of last.end ≡ after
+  pub breaks : last.counters.broken ≡ broken
+  pub holds : HoldsDevice (pair_told memory_told last)
+  pub related : R (pair_told memory_told first) (pair_told memory_told last)

@@ -1,10 +1,12 @@
 //! fbflash's top call over a folder and a device in memory.
-ghost use Rattle.std.specs.Prelude.{◌≡◌, ◌+◌, ◌≤◌, All, map, string_bytes};
+ghost use Rattle.std.specs.Prelude.{◌≡◌, ◌+◌, ◌≤◌, All, Some, map, string_bytes};
 ghost use Rattle.dev_disk.specs.Memory.{memory_faults, memory_files};
 ghost use Rattle.flash_plan.specs.MemoryFiles.{file_of};
+ghost use Rattle.host_driver.specs.Jobs.{folder, outside};
 ghost use Rattle.host_words.specs.Requests.{target_of};
 ghost use Rattle.host_words.specs.Words.{host_words};
-ghost use Rattle.host_memory.specs.Rehearsals.{scene, counts, went, IsUndisturbed, OfFlash};
+ghost use Rattle.host_top.specs.Hosted.{Hosted};
+ghost use Rattle.host_memory.specs.Rehearsals.{scene, counts, went, IsUndisturbed, OfFlash, OverPort};
 ghost use Rattle.host_memory.specs.Rehearsals.{IsInstalled, LeavesImage, CompletesAt, KeepsImages};
 
 use dev_disk::memory::MemoryDisk;
@@ -34,6 +36,13 @@ pub fn rehearse<S: Sink>(
     out: &mut S,
 ) -> Rehearsed
     requires sizes { All (λ size. 1 ≤ size) sizes.items }
+    ensures hosted { OverPort disk result.disk result.broken (λ before after.
+        Hosted (host_words (map string_bytes words.now))
+        (outside before (folder (Some dir.old.path) (Some (file_of dir.old.files))
+        dir.old.entered dir.old.failing.faults) (S.text out.old) (S.faults out.old))
+        (outside after (folder (Some dir.new.path) (Some (file_of dir.new.files))
+        dir.new.entered dir.new.failing.faults) (S.text out.new) (S.faults out.new))
+        result.status) }
     ensures installed { OfFlash (host_words (map string_bytes words.now)) (λ path place options.
         result.status ≡ 0 → IsInstalled path options
         (scene (file_of dir.old.files) (memory_files disk) (memory_files result.disk)

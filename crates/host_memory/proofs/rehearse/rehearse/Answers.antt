@@ -103,3 +103,14 @@ returns-clause-path g c =
 pub returns-clause-files : goal.returns-clause-files
 returns-clause-files g c =
     some-inj (file_of c.host_main-status.new.dir.files) (file_of c.args.dir.now.files) c.host_main-status.ensures.hosted.lasts.files
+
+pub returns-clause-hosted : goal.returns-clause-hosted
+returns-clause-hosted g c = record {
+  first = c.new-port.result;
+  alone = c.new-port.ensures.alone;
+  last = c.host_main-status.new.port;
+  disk = sym c.into_disk.ensures.disk;
+  breaks = sym c.broken-broken.ensures.broken;
+  holds = c.into_disk.ensures.honest unchanged_is_honest;
+  related = c.host_main-status.ensures.hosted;
+}
