@@ -22,5 +22,7 @@ fn main(rt: HostRuntime) -> ExitCode {
     let images = PairPort::new(FileDisk::new(&rt), Vec::new(alloc), Vec::new(alloc));
     let mut port = AnyPort::new(TcpPort::new(&rt), images);
     let status = host_main(alloc, words.as_slice(), &mut dir, &mut port, &mut out);
+    let (_addresses, images) = port.into_ports();
+    let _disk = images.into_disk();
     ExitCode::from(status)
 }

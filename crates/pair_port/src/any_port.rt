@@ -68,6 +68,14 @@ impl<A: Untold, I: Port> AnyPort<A, I> {
             way: Way::Image,
         }
     }
+
+    /// Gives both ports back.
+    pub fn into_ports(self) -> (A, I)
+        ensures addresses { result.0 ≡ self.addresses }
+        ensures images { result.1 ≡ self.images }
+    {
+        (self.addresses, self.images)
+    }
 }
 
 impl<A: Untold, I: Port> Port for AnyPort<A, I> {

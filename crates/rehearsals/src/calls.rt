@@ -28,5 +28,7 @@ pub fn run_host<S: Sink>(
     let (sizes, breaks) = cutting.take(alloc)?;
     let mut dir = FolderDir::new(rt);
     let mut port = PairPort::new(FileDisk::new(rt), sizes, breaks);
-    Ok(host_main(alloc, words, &mut dir, &mut port, out))
+    let status = host_main(alloc, words, &mut dir, &mut port, out);
+    let _disk = port.into_disk();
+    Ok(status)
 }
