@@ -7,9 +7,9 @@ ghost use Rattle.wire_told.specs.Exchanges.{FreeFor};
 ghost use Rattle.wire_told.specs.Peers.{OfLink};
 ghost use Rattle.wire_told.specs.Ports.{Kept};
 
-use crate::port::Port;
-use crate::states::{Answer, Lost, Ready};
 use fb_frame::sink::Sink;
+use fb_link::port::Port;
+use fb_link::states::{Answer, Lost, Ready};
 use fb_message::command::Command;
 
 /// Asks for a variable, and goes on where it is told.
