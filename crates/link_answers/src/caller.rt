@@ -1,4 +1,4 @@
-//! A host in small, for tests: it opens a connection, asks twice and downloads, and its clauses say what
+//! A host in small: it opens a connection, asks twice and downloads, and its clauses say what
 //! that leaves, by the clauses of the typed states alone.
 ghost use Rattle.std.specs.Prelude.{◌≡◌, ℕ, ◌+◌, ◌<◌, ◌≤◌, ◌^◌, length, Some, IsTrue, IfSome};
 ghost use Rattle.fb_link.specs.Answers.{port_of};

@@ -18,18 +18,26 @@ fn accept(listener: &TcpListener) -> anyhow::Result<TcpStream> {
     Ok(peer)
 }
 
-/// Prints what is heard into a buffer of so many bytes.
-fn hear<R: Net + Drop>(rt: &HostRuntime, port: &mut TcpPort<R>, buf: &mut [u8]) -> anyhow::Result<()>
+/// Prints how many bytes are heard into the buffer, and which.
+fn hear<R: Net + Drop>(
+    rt: &HostRuntime,
+    port: &mut TcpPort<R>,
+    buf: &mut [u8],
+) -> anyhow::Result<()>
     requires up { IsTrue (⟦<TcpPort<R> as Port>⟧.told port.old).up }
     ensures up { OnOk result (IsTrue (⟦<TcpPort<R> as Port>⟧.told port.new).up) }
 {
     let n = port.recv(buf)?;
-    println!(rt; "heard: {}", escaped(rt.alloc(), &buf[..n])?)?;
+    println!(rt; "heard {n}: {}", escaped(rt.alloc(), &buf[..n])?)?;
     Ok(())
 }
 
 /// Sends a handshake and a question, and prints what the peer gets of them.
-fn send<R: Net + Drop>(rt: &HostRuntime, port: &mut TcpPort<R>, peer: &mut TcpStream) -> anyhow::Result<()>
+fn send<R: Net + Drop>(
+    rt: &HostRuntime,
+    port: &mut TcpPort<R>,
+    peer: &mut TcpStream,
+) -> anyhow::Result<()>
     requires up { IsTrue (⟦<TcpPort<R> as Port>⟧.told port.old).up }
     ensures up { OnOk result (IsTrue (⟦<TcpPort<R> as Port>⟧.told port.new).up) }
 {
@@ -37,12 +45,16 @@ fn send<R: Net + Drop>(rt: &HostRuntime, port: &mut TcpPort<R>, peer: &mut TcpSt
     let second = port.send(ASKED[1])?;
     let mut got = [0; 26];
     peer.read_exact(&mut got)?;
-    println!(rt; "sent: {first} and {second} bytes, {}", escaped(rt.alloc(), &got)?)?;
+    println!(rt; "sent {first} and {second}: {}", escaped(rt.alloc(), &got)?)?;
     Ok(())
 }
 
 /// A connection in which bytes go both ways and come in pieces, until the peer ends it.
-fn carry<R: Net + Drop>(rt: &HostRuntime, port: &mut TcpPort<R>, peer: TcpStream) -> anyhow::Result<()>
+fn carry<R: Net + Drop>(
+    rt: &HostRuntime,
+    port: &mut TcpPort<R>,
+    peer: TcpStream,
+) -> anyhow::Result<()>
     requires up { IsTrue (⟦<TcpPort<R> as Port>⟧.told port.old).up }
 {
     let mut peer = peer;
@@ -83,7 +95,10 @@ pub fn run(rt: &HostRuntime) -> anyhow::Result<()> {
     carry(rt, &mut port, accept(&listener)?)?;
     port.connect()?;
     drop(accept(&listener)?);
-    println!(rt; "to a peer that has gone: {}", word(&send_to_none(&mut port)))?;
+    println!(rt;
+        "to a peer that has gone: {}",
+        word(&send_to_none(&mut port))
+    )?;
     drop(listener);
     println!(rt; "to nobody: {}", word(&port.connect()))?;
     Ok(())

@@ -22,6 +22,7 @@
 
 mod call;
 mod caller;
+mod came;
 mod escaped;
 mod host;
 mod loopback;
@@ -90,9 +91,9 @@ fn run_case<R: Print + Alloc<A = Global>>(
         let Some(call) = call_of(word) else {
             bail!("no call");
         };
-        let (next, came) = step(alloc, host, &call, &mut shown)?;
-        println!(rt; "{came}")?;
+        let (next, came) = step(alloc, host, call, &mut shown);
         host = next;
+        println!(rt; "{}", came.text(alloc)?)?;
     }
     print_shown(rt, &shown)?;
     print_sent(rt, host, connections)

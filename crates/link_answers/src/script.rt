@@ -90,7 +90,8 @@ impl Script {
 
     /// Ends the connection whose bytes were told last.
     pub fn end(&mut self, alloc: Global) -> anyhow::Result<()> {
-        self.connections.push(self.current.as_slice().to_vec(alloc)?)?;
+        self.connections
+            .push(self.current.as_slice().to_vec(alloc)?)?;
         self.current.clear();
         Ok(())
     }
