@@ -1,15 +1,16 @@
 //! A port over TCP, whose other end is in this process too.
-ghost use Rattle.std.specs.Prelude.{IsTrue, OnOk};
+ghost use Rattle.std.specs.Prelude.{IsTrue, OnOk, IfOk};
 
 use crate::escaped::escaped;
-use fb_link::port::{LinkFault, Port, Target};
+use fb_link::port::{AimError, LinkFault, Port, Target};
 use fb_link::tcp_port::TcpPort;
+use std::alloc::Global;
 use std::io::{Read, Write};
 use std::net::{Ipv4Addr, Net, TcpListener, TcpStream};
 use std::time::Duration;
 
-/// What a host sends first: the handshake and a question, each by a call of its own.
-const ASKED: [&[u8]; 2] = [b"FB01", b"\0\0\0\0\0\0\0\x0egetvar:version"];
+/// What a host asks, as a frame.
+const QUESTION: &[u8] = b"\0\0\0\0\0\0\0\x0egetvar:version";
 
 /// The other end of a connection, which waits for bytes no longer than ten seconds.
 fn accept(listener: &TcpListener) -> anyhow::Result<TcpStream> {
@@ -18,7 +19,20 @@ fn accept(listener: &TcpListener) -> anyhow::Result<TcpStream> {
     Ok(peer)
 }
 
-/// Prints how many bytes are heard into the buffer, and which.
+/// Prints a word and bytes.
+fn print(rt: &HostRuntime, word: &str, bytes: &[u8]) -> anyhow::Result<()> {
+    let text = escaped(rt.alloc(), bytes)?;
+    println!(rt; "{word}: {text}")?;
+    Ok(())
+}
+
+/// Prints what the peer gets.
+fn print_got(rt: &HostRuntime, peer: &mut TcpStream, buf: &mut [u8]) -> anyhow::Result<()> {
+    peer.read_exact(buf)?;
+    print(rt, "sent", buf)
+}
+
+/// Prints what is heard of bytes that the peer says, none where it says none.
 fn hear<R: Net + Drop>(
     rt: &HostRuntime,
     port: &mut TcpPort<R>,
@@ -28,12 +42,21 @@ fn hear<R: Net + Drop>(
     ensures up { OnOk result (IsTrue (⟦<TcpPort<R> as Port>⟧.told port.new).up) }
 {
     let n = port.recv(buf)?;
-    println!(rt; "heard {n}: {}", escaped(rt.alloc(), &buf[..n])?)?;
+    print(rt, "heard", &buf[..n])
+}
+
+/// Sends a handshake and a question, each in one call.
+fn ask<R: Net + Drop>(port: &mut TcpPort<R>) -> Result<(), LinkFault>
+    requires up { IsTrue (⟦<TcpPort<R> as Port>⟧.told port.old).up }
+    ensures up { OnOk result (IsTrue (⟦<TcpPort<R> as Port>⟧.told port.new).up) }
+{
+    port.send(b"FB01")?;
+    port.send(QUESTION)?;
     Ok(())
 }
 
-/// Sends a handshake and a question, and prints what the peer gets of them.
-fn send<R: Net + Drop>(
+/// A question and its answer, whole.
+fn exchange<R: Net + Drop>(
     rt: &HostRuntime,
     port: &mut TcpPort<R>,
     peer: &mut TcpStream,
@@ -41,16 +64,14 @@ fn send<R: Net + Drop>(
     requires up { IsTrue (⟦<TcpPort<R> as Port>⟧.told port.old).up }
     ensures up { OnOk result (IsTrue (⟦<TcpPort<R> as Port>⟧.told port.new).up) }
 {
-    let first = port.send(ASKED[0])?;
-    let second = port.send(ASKED[1])?;
-    let mut got = [0; 26];
-    peer.read_exact(&mut got)?;
-    println!(rt; "sent {first} and {second}: {}", escaped(rt.alloc(), &got)?)?;
-    Ok(())
+    peer.write_all(b"FB01\0\0\0\0\0\0\0\x07OKAY0.4")?;
+    ask(port)?;
+    print_got(rt, peer, &mut [0; 26])?;
+    hear(rt, port, &mut [0; 19])
 }
 
-/// A connection in which bytes go both ways and come in pieces, until the peer ends it.
-fn carry<R: Net + Drop>(
+/// Bytes that come in pieces, as they are sent and as a buffer of two bytes holds, and then the peer's end.
+fn hear_pieces<R: Net + Drop>(
     rt: &HostRuntime,
     port: &mut TcpPort<R>,
     peer: TcpStream,
@@ -58,20 +79,36 @@ fn carry<R: Net + Drop>(
     requires up { IsTrue (⟦<TcpPort<R> as Port>⟧.told port.old).up }
 {
     let mut peer = peer;
-    peer.write_all(b"FB01\0\0\0\0\0\0\0\x07OKAY0.4")?;
-    send(rt, port, &mut peer)?;
-    hear(rt, port, &mut [0; 19])?;
+    let mut buf = [0; 2];
     peer.write_all(b"a")?;
-    hear(rt, port, &mut [0; 2])?;
+    hear(rt, port, &mut buf)?;
     peer.write_all(b"bcd")?;
-    hear(rt, port, &mut [0; 2])?;
-    hear(rt, port, &mut [0; 2])?;
+    hear(rt, port, &mut buf)?;
+    hear(rt, port, &mut buf)?;
     drop(peer);
-    hear(rt, port, &mut [0; 2])
+    hear(rt, port, &mut buf)
 }
 
-/// A byte for a peer that has gone. The system may take one or two before it knows.
-fn send_to_none<R: Net + Drop>(port: &mut TcpPort<R>) -> Result<(), LinkFault>
+/// A port that is aimed at a port of this machine.
+fn aimed<R: Net + Drop>(alloc: Global, net: R, number: u16) -> Result<TcpPort<R>, AimError>
+    ensures aimed { IfOk result (λ p. IsTrue (⟦<TcpPort<R> as Port>⟧.told p).aimed) }
+{
+    let mut port = TcpPort::new(net);
+    port.aim(alloc, &Target::Tcp("127.0.0.1", number))?;
+    Ok(port)
+}
+
+/// A connection in which bytes go both ways, until the peer ends it.
+fn carry(rt: &HostRuntime, listener: &TcpListener, number: u16) -> anyhow::Result<()> {
+    let mut port = aimed(rt.alloc(), rt, number)?;
+    port.connect()?;
+    let mut peer = accept(listener)?;
+    exchange(rt, &mut port, &mut peer)?;
+    hear_pieces(rt, &mut port, peer)
+}
+
+/// Bytes for a peer that has gone. The system may take some before it knows.
+fn send_to_gone<R: Net + Drop>(port: &mut TcpPort<R>) -> Result<(), LinkFault>
     requires up { IsTrue (⟦<TcpPort<R> as Port>⟧.told port.old).up }
 {
     port.send(b"x")?;
@@ -80,26 +117,41 @@ fn send_to_none<R: Net + Drop>(port: &mut TcpPort<R>) -> Result<(), LinkFault>
     Ok(())
 }
 
-/// How a call ended, as a word.
-fn word<T>(ended: &Result<T, LinkFault>) -> &'static str {
-    if ended.is_ok() { "ok" } else { "link" }
+/// A connection in the place of another one, whose peer goes.
+fn lose(rt: &HostRuntime, listener: &TcpListener, number: u16) -> anyhow::Result<()> {
+    let mut port = aimed(rt.alloc(), rt, number)?;
+    port.connect()?;
+    drop(accept(listener)?);
+    port.connect()?;
+    drop(accept(listener)?);
+    print_end(rt, "to a peer that has gone", &send_to_gone(&mut port))
+}
+
+/// A connection that nobody takes.
+fn find_none(rt: &HostRuntime, number: u16) -> anyhow::Result<()> {
+    let mut port = aimed(rt.alloc(), rt, number)?;
+    print_end(rt, "to nobody", &port.connect())
+}
+
+/// Prints how a call ended.
+fn print_end(rt: &HostRuntime, word: &str, end: &Result<(), LinkFault>) -> anyhow::Result<()> {
+    print(
+        rt,
+        word,
+        if end.is_ok() {
+            b"ok".as_slice()
+        } else {
+            b"link".as_slice()
+        },
+    )
 }
 
 /// A connection, one whose peer goes at once, and one that nobody takes.
 pub fn run(rt: &HostRuntime) -> anyhow::Result<()> {
     let listener = TcpListener::bind(rt, (Ipv4Addr::LOCALHOST, 0))?;
     let number = listener.local_addr()?.port();
-    let mut port = TcpPort::new(rt);
-    port.aim(rt.alloc(), &Target::Tcp("127.0.0.1", number))?;
-    port.connect()?;
-    carry(rt, &mut port, accept(&listener)?)?;
-    port.connect()?;
-    drop(accept(&listener)?);
-    println!(rt;
-        "to a peer that has gone: {}",
-        word(&send_to_none(&mut port))
-    )?;
+    carry(rt, &listener, number)?;
+    lose(rt, &listener, number)?;
     drop(listener);
-    println!(rt; "to nobody: {}", word(&port.connect()))?;
-    Ok(())
+    find_none(rt, number)
 }

@@ -8,6 +8,32 @@ use std::alloc::{AllocError, Global};
 /// How many bytes of a host are kept.
 const KEPT: usize = 1_000;
 
+/// A word with a number.
+#[derive(Clone, Copy)]
+enum Numbered {
+    Head(u32),
+    Lines(u32),
+    Cut(u32),
+    Size(u32),
+    Fails(u32),
+    Room(u32),
+}
+
+/// Reads a word with a number.
+fn read(word: &str) -> Option<Numbered> {
+    let (kind, number) = word.split_once(":")?;
+    let number = number.parse().ok()?;
+    match kind {
+        "head" => Some(Numbered::Head(number)),
+        "lines" => Some(Numbered::Lines(number)),
+        "cut" => Some(Numbered::Cut(number)),
+        "size" => Some(Numbered::Size(number)),
+        "fails" => Some(Numbered::Fails(number)),
+        "room" => Some(Numbered::Room(number)),
+        _ => None,
+    }
+}
+
 /// What the peer of a case does: the bytes of each connection, how they are cut, which calls fail, and the room
 /// for lines.
 #[derive(Drop)]
@@ -32,7 +58,7 @@ fn add_lines(bytes: &mut Vec<u8>, count: u32) -> Result<(), AllocError> {
     Ok(())
 }
 
-/// Sizes with commas between them, each at least 1.
+/// The sizes, each at least 1.
 fn bounds(alloc: Global, sizes: &[u32]) -> Result<Vec<u32>, AllocError>
     ensures { IfOk result (λ bounds. All (λ size. 1 ≤ size) bounds.items) }
 {
@@ -56,43 +82,41 @@ impl Script {
     }
 
     /// Takes a word of what the peer does.
-    pub fn take(&mut self, alloc: Global, word: &str) -> anyhow::Result<()> {
-        if let Some(text) = word.strip_prefix("+") {
-            self.current.extend_from_slice(text.as_bytes())?;
-            return Ok(());
+    pub fn take(&mut self, alloc: Global, word: &str) -> Result<(), AllocError> {
+        if word == "next" {
+            return self.end(alloc);
         }
-        match word.split_once(":") {
-            Some((kind, text)) => self.take_kind(kind, text),
-            None if word == "next" => self.end(alloc),
-            None => Ok(add_frame(&mut self.current, word.as_bytes())?),
+        match (read(word), word.strip_prefix("+")) {
+            (Some(numbered), _) => self.take_number(numbered),
+            (None, Some(text)) => self.current.extend_from_slice(text.as_bytes()),
+            (None, None) => add_frame(&mut self.current, word.as_bytes()),
         }
     }
 
-    fn take_kind(&mut self, kind: &str, text: &str) -> anyhow::Result<()> {
-        match kind {
-            "head" => self.current.extend_from_slice(&frame_head(text.parse()?))?,
-            "lines" => add_lines(&mut self.current, text.parse()?)?,
-            "cut" => self.current.truncate(text.parse()?),
-            "sizes" => self.take_sizes(text)?,
-            "fails" => self.fails.push(text.parse()?)?,
-            "room" => self.room = text.parse()?,
-            _ => anyhow::bail!("no word of a peer"),
+    fn take_number(&mut self, word: Numbered) -> Result<(), AllocError> {
+        match word {
+            Numbered::Head(count) => self
+                .current
+                .extend_from_slice(&frame_head(u64::from(count))),
+            Numbered::Lines(count) => add_lines(&mut self.current, count),
+            Numbered::Size(size) => self.sizes.extend_from_slice(&[size]),
+            Numbered::Fails(call) => self.fails.extend_from_slice(&[u64::from(call)]),
+            Numbered::Cut(count) => {
+                self.current.truncate(count as usize);
+                Ok(())
+            }
+            Numbered::Room(count) => {
+                self.room = count as usize;
+                Ok(())
+            }
         }
-        Ok(())
-    }
-
-    fn take_sizes(&mut self, text: &str) -> anyhow::Result<()> {
-        for size in text.split(',') {
-            self.sizes.push(size.parse()?)?;
-        }
-        Ok(())
     }
 
     /// Ends the connection whose bytes were told last.
-    pub fn end(&mut self, alloc: Global) -> anyhow::Result<()> {
-        self.connections
-            .push(self.current.as_slice().to_vec(alloc)?)?;
+    pub fn end(&mut self, alloc: Global) -> Result<(), AllocError> {
+        let bytes = self.current.as_slice().to_vec(alloc)?;
         self.current.clear();
+        self.connections.push(bytes)?;
         Ok(())
     }
 
