@@ -16,3 +16,10 @@ fn add_byte(alloc: Global, text: &mut String, byte: u8) -> Result<(), AllocError
     let escape = format!(in alloc; "\\x{byte:02x}")?;
     text.push_str(escape.as_str())
 }
+
+/// Prints a word and bytes.
+pub fn print<R: Print + Alloc<A = Global>>(rt: &R, word: &str, bytes: &[u8]) -> anyhow::Result<()> {
+    let text = escaped(rt.alloc(), bytes)?;
+    println!(rt; "{word}: {text}")?;
+    Ok(())
+}

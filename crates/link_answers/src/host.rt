@@ -1,4 +1,5 @@
 //! A host over a scripted port: the state of its connection, and what each call brings.
+ghost use Rattle.std.specs.Prelude.{◌<◌, ◌≤◌, length, IsTrue};
 
 use crate::call::Call;
 use crate::caller::load;
@@ -79,7 +80,11 @@ fn wrote(sending: Sending<ScriptPort>) -> (Host, Came) {
 }
 
 /// Whether so many bytes go into one frame, where so many are left.
-fn fits(bytes: &[u8], left: u32) -> bool {
+fn fits(bytes: &[u8], left: u32) -> bool
+    ensures some { IsTrue result → 0 < length bytes.now }
+    ensures small { IsTrue result → length bytes.now ≤ 65536 }
+    ensures within { IsTrue result → length bytes.now ≤ left }
+{
     !bytes.is_empty() && bytes.len() <= 65_536 && bytes.len() <= left as usize
 }
 

@@ -1,7 +1,7 @@
 //! A port over TCP, whose other end is in this process too.
 ghost use Rattle.std.specs.Prelude.{IsTrue, OnOk, IfOk};
 
-use crate::escaped::escaped;
+use crate::escaped::print;
 use fb_link::port::{AimError, LinkFault, Port, Target};
 use fb_link::tcp_port::TcpPort;
 use std::alloc::Global;
@@ -17,13 +17,6 @@ fn accept(listener: &TcpListener) -> anyhow::Result<TcpStream> {
     let (peer, _) = listener.accept()?;
     peer.set_read_timeout(Some(Duration::from_secs(10)))?;
     Ok(peer)
-}
-
-/// Prints a word and bytes.
-fn print(rt: &HostRuntime, word: &str, bytes: &[u8]) -> anyhow::Result<()> {
-    let text = escaped(rt.alloc(), bytes)?;
-    println!(rt; "{word}: {text}")?;
-    Ok(())
 }
 
 /// Prints what the peer gets.
@@ -70,6 +63,15 @@ fn exchange<R: Net + Drop>(
     hear(rt, port, &mut [0; 19])
 }
 
+/// What comes in three calls with a buffer of two bytes.
+fn hear_rest<R: Net + Drop>(rt: &HostRuntime, port: &mut TcpPort<R>) -> anyhow::Result<()>
+    requires up { IsTrue (⟦<TcpPort<R> as Port>⟧.told port.old).up }
+{
+    hear(rt, port, &mut [0; 2])?;
+    hear(rt, port, &mut [0; 2])?;
+    hear(rt, port, &mut [0; 2])
+}
+
 /// Bytes that come in pieces, as they are sent and as a buffer of two bytes holds, and then the peer's end.
 fn hear_pieces<R: Net + Drop>(
     rt: &HostRuntime,
@@ -79,14 +81,11 @@ fn hear_pieces<R: Net + Drop>(
     requires up { IsTrue (⟦<TcpPort<R> as Port>⟧.told port.old).up }
 {
     let mut peer = peer;
-    let mut buf = [0; 2];
     peer.write_all(b"a")?;
-    hear(rt, port, &mut buf)?;
+    hear(rt, port, &mut [0; 2])?;
     peer.write_all(b"bcd")?;
-    hear(rt, port, &mut buf)?;
-    hear(rt, port, &mut buf)?;
     drop(peer);
-    hear(rt, port, &mut buf)
+    hear_rest(rt, port)
 }
 
 /// A port that is aimed at a port of this machine.

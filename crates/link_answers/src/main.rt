@@ -45,16 +45,13 @@ fn script_of(alloc: Global, words: &str) -> Result<Script, AllocError> {
     Ok(script)
 }
 
-/// Makes the calls over a script.
+/// Makes the calls over a script, and prints what came of them.
 fn run_case<R: Print + Alloc<A = Global>>(rt: &R, peer: &str, calls: &str) -> anyhow::Result<()> {
     let script = script_of(rt.alloc(), peer)?;
-    let connections = u32::try_from(script.connections.len())?;
     let mut case = Case::new(rt.alloc(), script)?;
-    for word in calls.split(' ') {
-        case.take(rt, word)?;
-    }
+    case.take_all(rt, calls)?;
     case.print_shown(rt)?;
-    case.print_sent(rt, connections)
+    case.print_sent(rt)
 }
 
 /// Does what a line says.
