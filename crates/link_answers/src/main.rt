@@ -15,6 +15,7 @@
 //!
 //! The calls: `connect`, `getvar:NAME`, `download:N`, `write:TEXT`, `apart:TEXT` (a frame of data over the port
 //! itself), `finish`, `hang-up`, `abandon`, and `load:TEXT` (a connection, two questions and a download at once).
+//! One that isn't due in the connection's state is `unfit`.
 //!
 //! Each call's answer is a line; then stand the lines that were shown, and for each connection the bytes that
 //! were sent in it. A byte that isn't printed stands as `\x` with its two digits.
