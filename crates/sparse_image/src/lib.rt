@@ -34,6 +34,3 @@ pub fn laws()
     ensures runs_front { RunsFront }
     ensures whole_image { WholeImage }
 {}
-
-#[cfg(test)]
-mod tests;

@@ -1,4 +1,4 @@
-//! A host in small, for tests: it opens a connection, asks twice and downloads, and its clauses say what
+//! A host in small: it opens a connection, asks twice and downloads, and its clauses say what
 //! that leaves, by the clauses of the typed states alone.
 ghost use Rattle.std.specs.Prelude.{◌≡◌, ℕ, ◌+◌, ◌<◌, ◌≤◌, ◌^◌, length, Some, IsTrue, IfSome};
 ghost use Rattle.fb_link.specs.Answers.{port_of};
@@ -7,9 +7,9 @@ ghost use Rattle.wire_told.specs.Exchanges.{FreeFor};
 ghost use Rattle.wire_told.specs.Peers.{OfLink};
 ghost use Rattle.wire_told.specs.Ports.{Kept};
 
-use crate::port::Port;
-use crate::states::{Answer, Lost, Ready};
 use fb_frame::sink::Sink;
+use fb_link::port::Port;
+use fb_link::states::{Answer, Lost, Ready};
 use fb_message::command::Command;
 
 /// Asks for a variable, and goes on where it is told.

@@ -1,6 +1,6 @@
 use Rattle.std.proofs.Common.{length}
-use Rattle.fb_link.proofs.CallerLemmas.{FreeFor-loaded}
-use Rattle.fb_link.proofs.caller.download.Goals as goal
+use Rattle.link_answers.proofs.CallerLemmas.{FreeFor-loaded}
+use Rattle.link_answers.proofs.caller.download.Goals as goal
 
 pub returns-in-Okay-clause-free : goal.returns-in-Okay-clause-free
 returns-in-Okay-clause-free g c = λ spare free.

@@ -1,7 +1,7 @@
 use Rattle.std.proofs.Common.{◌+◌, ◌^◌, length}
 use Rattle.wire_told.proofs.ExchangeLemmas.{Free-for}
-use Rattle.fb_link.proofs.CallerLemmas.{first-free, second-free, last-free}
-use Rattle.fb_link.proofs.caller.load.Goals as goal
+use Rattle.link_answers.proofs.CallerLemmas.{first-free, second-free, last-free}
+use Rattle.link_answers.proofs.caller.load.Goals as goal
 
 pub ask-requires-2-clause-free : goal.ask-requires-2-clause-free
 ask-requires-2-clause-free g c = Free-for (2 ^ 60 + 200000) _ (first-free _ _ _ c.in-Ok.ensures.opened.state c.in_ok-ready.ensures.free)
