@@ -10,7 +10,7 @@ use device_jobs::show::show_image;
 use fb_frame::sink::Sink;
 use flash_plan::memory_dir::MemoryDir;
 use host_memory::rehearse::rehearse;
-use sample_product::files::{LAYOUT, sample_files};
+use sample_product::files::{layout_text, sample_files};
 use std::alloc::{AllocError, Global};
 
 const IMAGE: &str = "DEV";
@@ -19,7 +19,7 @@ const FOLDER: &str = "DIR";
 
 /// A disk with the image of the device, unlocked.
 fn sample_disk(alloc: Global) -> Result<MemoryDisk, JobError> {
-    let Ok(layout) = read_layout(alloc, LAYOUT) else {
+    let Ok(layout) = read_layout(alloc, layout_text()) else {
         return Err(JobError::Memory);
     };
     let Ok(mut disk) = MemoryDisk::new(alloc, Vec::new(alloc)) else {

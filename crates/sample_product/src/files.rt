@@ -1,14 +1,22 @@
 //! The files of a sample's product.
+ghost use Rattle.std.specs.Prelude.{◌≡◌, ◌++◌, [], ◌∷◌, ℕ, List, IfOk, OnOk, map, codes};
+ghost use Rattle.flash_plan.specs.MemoryFiles.{file_of};
+ghost use Rattle.sample_product.specs.Images.{IsLength, raw_image, after_raw, sparse_image};
+ghost use Rattle.sample_product.specs.Products.{layout_text, requirements, tasks, entry, entry_of};
+ghost use Rattle.sample_product.specs.Products.{given_files, drawn_files, sample_entries, sample_files};
 
 use crate::draws::Draws;
-use crate::metadata::super_file;
+use crate::metadata::super_image;
 use crate::raw::{Length, raw_image};
 use crate::sparse::sparse_image;
 use flash_plan::memory_dir::DirFile;
 use std::alloc::{AllocError, Global};
 
 /// The layout of the device that a sample's product is for.
-pub const LAYOUT: &[u8] = b"fbdevice 1
+pub fn layout_text() -> &'static [u8]
+    ensures { result.now ≡ layout_text }
+{
+    b"fbdevice 1
 product falcon
 serialno S3
 slots 2
@@ -24,11 +32,19 @@ partition vbmeta_a 65536
 partition vbmeta_b 65536
 partition userdata 131072
 super super 67108864 65536 65536 2
-";
+"
+}
 
-const REQUIREMENTS: &[u8] = b"require version-bootloader=1.2*|2.0\n";
+fn requirements() -> &'static [u8]
+    ensures { result.now ≡ requirements }
+{
+    b"require version-bootloader=1.2*|2.0\n"
+}
 
-const TASKS: &[u8] = b"# fastboot-info for falcon
+fn tasks() -> &'static [u8]
+    ensures { result.now ≡ tasks }
+{
+    b"# fastboot-info for falcon
 version 1
 flash bootloader
 flash radio
@@ -42,42 +58,85 @@ flash vendor
 flash product
 flash --slot-other system system_other.img
 if-wipe erase userdata
-";
-
-fn file(alloc: Global, name: &str, bytes: Vec<u8>) -> Result<DirFile, AllocError> {
-    Ok(DirFile {
-        name: name.to_string(alloc)?,
-        bytes,
-    })
+"
 }
 
-/// Adds the files that aren't drawn.
-fn add_given(alloc: Global, files: &mut Vec<DirFile>) -> Result<(), AllocError> {
-    files.push(file(alloc, "android-info.txt", REQUIREMENTS.to_vec(alloc)?)?)?;
-    files.push(file(alloc, "fastboot-info.txt", TASKS.to_vec(alloc)?)?)?;
-    files.push(file(alloc, "super_empty.img", super_file(alloc)?)?)?;
+/// Adds a file.
+fn add(
+    alloc: Global,
+    name: &str,
+    bytes: Vec<u8>,
+    files: &mut Vec<DirFile>,
+) -> Result<(), AllocError>
+    ensures { OnOk result
+        (map entry_of files.new.items ≡ map entry_of files.old.items ++ entry name.now bytes.items ∷ []) }
+{
+    let name = name.to_string(alloc)?;
+    files.push(DirFile { name, bytes })?;
     Ok(())
 }
 
-/// The raw images, in the order in which they are drawn.
-const IMAGES: [(&str, Length); 7] = [
-    ("bootloader.img", Length::Bytes(8192)),
-    ("radio.img", Length::Bytes(4096)),
-    ("boot.img", Length::Blocks(2048)),
-    ("vbmeta.img", Length::Bytes(4096)),
-    ("system.img", Length::Blocks(4096)),
-    ("vendor.img", Length::Blocks(2048)),
-    ("system_other.img", Length::Blocks(1024)),
-];
+/// Adds the files that aren't drawn.
+fn add_given(alloc: Global, files: &mut Vec<DirFile>) -> Result<(), AllocError>
+    ensures { OnOk result (map entry_of files.new.items ≡ map entry_of files.old.items ++ given_files) }
+{
+    add(
+        alloc,
+        "android-info.txt",
+        requirements().to_vec(alloc)?,
+        files,
+    )?;
+    add(alloc, "fastboot-info.txt", tasks().to_vec(alloc)?, files)?;
+    add(alloc, "super_empty.img", super_image(alloc)?, files)?;
+    Ok(())
+}
+
+/// Draws a raw image, and adds its file.
+fn add_raw(
+    alloc: Global,
+    name: &str,
+    length: Length,
+    draws: &mut Draws,
+    files: &mut Vec<DirFile>,
+) -> Result<(), AllocError>
+    requires { IsLength length }
+    ensures added { OnOk result (map entry_of files.new.items
+        ≡ map entry_of files.old.items ++ entry name.now (raw_image length draws.old.state) ∷ []) }
+    ensures after { OnOk result (draws.new.state ≡ after_raw length draws.old.state) }
+{
+    let bytes = raw_image(alloc, draws, length)?;
+    add(alloc, name, bytes, files)?;
+    Ok(())
+}
+
+/// Draws the images one after another, and adds their files.
+fn add_drawn(alloc: Global, draws: &mut Draws, files: &mut Vec<DirFile>) -> Result<(), AllocError>
+    ensures { OnOk result
+        (map entry_of files.new.items ≡ map entry_of files.old.items ++ drawn_files draws.old.state) }
+{
+    add_raw(alloc, "bootloader.img", Length::Bytes(8192), draws, files)?;
+    add_raw(alloc, "radio.img", Length::Bytes(4096), draws, files)?;
+    add_raw(alloc, "boot.img", Length::Blocks(2048), draws, files)?;
+    add_raw(alloc, "vbmeta.img", Length::Bytes(4096), draws, files)?;
+    add_raw(alloc, "system.img", Length::Blocks(4096), draws, files)?;
+    add_raw(alloc, "vendor.img", Length::Blocks(2048), draws, files)?;
+    add_raw(
+        alloc,
+        "system_other.img",
+        Length::Blocks(1024),
+        draws,
+        files,
+    )?;
+    add(alloc, "product.img", sparse_image(alloc, draws)?, files)?;
+    Ok(())
+}
 
 /// The files of the product that is drawn by a number.
-pub fn sample_files(alloc: Global, number: u32) -> Result<Vec<DirFile>, AllocError> {
+pub fn sample_files(alloc: Global, number: u32) -> Result<Vec<DirFile>, AllocError>
+    ensures { IfOk result (λ files. file_of files.items ≡ sample_files number) }
+{
     let mut files = Vec::new(alloc);
     add_given(alloc, &mut files)?;
-    let mut draws = Draws::new(number);
-    for (name, length) in IMAGES {
-        files.push(file(alloc, name, raw_image(alloc, &mut draws, length)?)?)?;
-    }
-    files.push(file(alloc, "product.img", sparse_image(alloc, &mut draws)?)?)?;
+    add_drawn(alloc, &mut Draws::new(number), &mut files)?;
     Ok(files)
 }
