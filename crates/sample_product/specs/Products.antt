@@ -95,6 +95,6 @@ abbrev pub found : List Entry → Files
 found [] name = None
 found (e ∷ entries) name = if bytes_eq e.name name then Some e.bytes else found entries name
 
--- the files of the product
-unfoldable pub sample_files : ℕ → Files
-sample_files number = found (sample_entries number)
+-- the files are those of the product that this number draws
+abbrev pub IsSampleProduct : ℕ → Files → Type 0
+IsSampleProduct number files = (name : List ℕ) → files name ≡ found (sample_entries number) name

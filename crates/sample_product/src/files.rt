@@ -3,7 +3,7 @@ ghost use Rattle.std.specs.Prelude.{◌≡◌, ◌++◌, [], ◌∷◌, ℕ, Lis
 ghost use Rattle.flash_plan.specs.MemoryFiles.{file_of};
 ghost use Rattle.sample_product.specs.Images.{IsLength, raw_image, after_raw, sparse_image};
 ghost use Rattle.sample_product.specs.Products.{layout_text, requirements, tasks, entry, entry_of};
-ghost use Rattle.sample_product.specs.Products.{given_files, drawn_files, sample_entries, sample_files};
+ghost use Rattle.sample_product.specs.Products.{given_files, drawn_files, IsSampleProduct};
 
 use crate::draws::Draws;
 use crate::metadata::super_image;
@@ -133,7 +133,7 @@ fn add_drawn(alloc: Global, draws: &mut Draws, files: &mut Vec<DirFile>) -> Resu
 
 /// The files of the product that is drawn by a number.
 pub fn sample_files(alloc: Global, number: u32) -> Result<Vec<DirFile>, AllocError>
-    ensures { IfOk result (λ files. file_of files.items ≡ sample_files number) }
+    ensures { IfOk result (λ files. IsSampleProduct number (file_of files.items)) }
 {
     let mut files = Vec::new(alloc);
     add_given(alloc, &mut files)?;

@@ -1,4 +1,4 @@
-use Rattle.std.proofs.Common.{◌≡◌, ◌++◌, ◌×◌}
+use Rattle.std.proofs.Common.{◌≡◌, ◌++◌}
 use Rattle.sample_product.specs.Draws.{after}
 use Rattle.sample_product.specs.Draws as draws
 use Rattle.sample_product.proofs.draws.Draws.put_bytes.Given as goal
