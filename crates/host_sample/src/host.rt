@@ -1,6 +1,6 @@
 //! The call that the program makes.
 
-use crate::sample::sample;
+use crate::sample::run_sample;
 use fb_frame::sink::Sink;
 use fb_link::port::Port;
 use flash_plan::dir::ProductDir;
@@ -31,7 +31,7 @@ pub fn fbflash_main<D: ProductDir, P: Port, S: Sink>(
     out: &mut S,
 ) -> u8 {
     match sample_number(alloc, words) {
-        Some(number) => sample(alloc, number, out),
+        Some(number) => run_sample(alloc, number, out),
         None => host_main(alloc, words, dir, port, out),
     }
 }
