@@ -1,5 +1,5 @@
 -- A sample of an installation: the device, what is installed, and what is printed.
-use Rattle.std.specs.Prelude.{◌≡◌, ℕ, true, false, List, [], ◌∷◌, ◌++◌, Option, Some, Ok, codes}
+use Rattle.std.specs.Prelude.{◌≡◌, ℕ, true, false, List, [], ◌∷◌, ◌++◌, length, Option, Some, Ok, codes}
 use Rattle.fb_frame.specs.Sinks.{Grew}
 use Rattle.dev_model.specs.declared.device.Dev.{Dev}
 use Rattle.dev_model.specs.declared.step.Step.{Step}
@@ -14,7 +14,8 @@ use Rattle.flash_plan.specs.Products.{product_of}
 use Rattle.host_driver.specs.Driven.{made}
 use Rattle.host_driver.specs.Jobs.{Job}
 use Rattle.host_words.specs.Words.{usual_options}
-use Rattle.host_top.specs.Outcomes.{report, job_outcome}
+use Rattle.host_driver.specs.Printing.{joined, lines_of}
+use Rattle.host_top.specs.Verdicts.{Done, last_line}
 use Rattle.pair_port.specs.Pairs.{stand_in}
 use Rattle.pair_port.specs.Stood.{IsStand}
 use Rattle.sample_product.specs.Products.{layout_text, IsSampleProduct}
@@ -61,17 +62,21 @@ pub record IsInstalled (number : ℕ) (j : Job) (final : Dev) : Type 0 where
   pub made_so : made j ≡ Some plan
   pub runs : run plan j.device ≡ Some final
 
+-- the report of an installation of so many steps: the lines of its questions, those of its steps, and the last
+abbrev pub report : Job → ℕ → List ℕ
+report j steps = joined (lines_of j).asks ++ joined (lines_of j).steps ++ last_line (Done steps)
+
 -- It was reported, and the image stands for what the run gives.
 pub record IsReported (number : ℕ) (files : Images) (text now : Option (List ℕ)) : Type 0 where
   pub j : Job
   pub final : Dev
   pub installed : IsInstalled number j final
   pub stands : IsStand (stand_in (files image_path)) final
-  pub printed : Grew text now (report (job_outcome j))
+  pub printed : Grew text now (report j (length installed.plan))
 
 -- The text grew by the report of the installation and the text of the device that its run gives.
 pub record IsSampled (number : ℕ) (text now : Option (List ℕ)) : Type 0 where
   pub j : Job
   pub final : Dev
   pub installed : IsInstalled number j final
-  pub printed : Grew text now (report (job_outcome j) ++ show_text final)
+  pub printed : Grew text now (report j (length installed.plan) ++ show_text final)
