@@ -5,7 +5,8 @@ use dev_disk::file::FileDisk;
 use fb_frame::write_sink::WriteSink;
 use fb_link::tcp_port::TcpPort;
 use flash_plan::folder_dir::FolderDir;
-use host_top::host::{host_main, refuse_words};
+use host_sample::host::fbflash_main;
+use host_top::host::refuse_words;
 use pair_port::any_port::AnyPort;
 use pair_port::pair::PairPort;
 use std::process::ExitCode;
@@ -21,7 +22,7 @@ fn main(rt: HostRuntime) -> ExitCode {
     let mut dir = FolderDir::new(&rt);
     let images = PairPort::new(FileDisk::new(&rt), Vec::new(alloc), Vec::new(alloc));
     let mut port = AnyPort::new(TcpPort::new(&rt), images);
-    let status = host_main(alloc, words.as_slice(), &mut dir, &mut port, &mut out);
+    let status = fbflash_main(alloc, words.as_slice(), &mut dir, &mut port, &mut out);
     let (_addresses, images) = port.into_ports();
     let _disk = images.into_disk();
     ExitCode::from(status)

@@ -1,0 +1,4 @@
+pub mod Draws
+pub mod Images
+pub mod Metadata
+pub mod Products
