@@ -1,18 +1,17 @@
 -- A call by whether the words ask for a sample.
-use Rattle.std.proofs.Common.{rules, ◌≡◌, ℕ, List, Option, Some, None, refl, sym, ap, subst, ◌∙◌}
+use Rattle.std.proofs.Common.{rules, ◌≡◌, ℕ, List, Option, Some, None, sym, ap, subst, ◌∙◌}
 use Rattle.wire_told.specs.Places.{Place}
 use Rattle.wire_told.specs.Ports.{PortTold}
 use Rattle.flash_plan.specs.declared.options.Options.{Options}
 use Rattle.host_driver.specs.Jobs.{Outside, Folder, outside}
 use Rattle.host_words.specs.declared.request.HostWords.{HostWords}
-use Rattle.host_words.specs.declared.request.HostAction.{HostAction}
 use Rattle.host_words.specs.declared.request.HostAction.TheVariants as action
 use Rattle.std.specs.Prelude.{option_and_then}
 use Rattle.host_words.specs.Targets.{place_of_text}
-use Rattle.host_words.specs.Requests.{Request, FlashAll, GetVar, Sample, Asks, request_by, request_of}
+use Rattle.host_words.specs.Requests.{Request, FlashAll, GetVar, Sample, Asks, request_by}
 use Rattle.host_top.specs.Hosted.{Hosted}
 use Rattle.host_sample.specs.Samples.{IsSampled}
-use Rattle.host_sample.specs.Calls.{Draws, Comes}
+use Rattle.host_sample.specs.Calls.{Comes}
 
 by-place : (n : ℕ) (place : Option Place) (options : Options) (request : Request) → request_by (action.Sample n) place options ≡ Some request → request ≡ Sample n
 by-place n None options request e = cc

@@ -1,9 +1,8 @@
 -- What an installation in memory reports, and over which device.
-use Rattle.std.proofs.Common.{◌≡◌, ℕ, ◌+◌, ◌≤◌, Bool, true, false, List, [], ◌∷◌, ◌++◌, length, map, take, Option, Some, None, refl, sym, ap, subst, ◌∙◌, arith, append-nil}
+use Rattle.std.proofs.Common.{◌≡◌, ℕ, ◌+◌, ◌≤◌, Bool, true, false, List, [], ◌∷◌, ◌++◌, length, take, Option, Some, None, refl, sym, ap, subst, ◌∙◌, arith, append-nil}
 use Rattle.std.specs.Prelude.{Result, Ok, Err, IsTrue}
 use Rattle.std.proofs.lemmas.List.{take_all, length-map}
 use Rattle.fb_frame.specs.Sinks.{Grew}
-use Rattle.dev_model.specs.declared.bad_image.BadImage.{BadImage}
 use Rattle.dev_model.specs.declared.device.Dev.{Dev}
 use Rattle.dev_model.specs.declared.step.Step.{Step}
 use Rattle.dev_disk.specs.Files.{Files as Images}
@@ -12,23 +11,23 @@ use Rattle.dev_store.specs.LayoutLines.{lines, entry_of}
 use Rattle.dev_store.specs.Layouts.{LayoutValue, layout_of}
 use Rattle.dev_store.specs.NewDevice.{new_device}
 use Rattle.dev_store.specs.Opening.{MadeIn}
-use Rattle.wire_told.specs.Places.{Stand, Device, ImageAt}
+use Rattle.wire_told.specs.Places.{Device}
 use Rattle.flash_plan.specs.declared.product.Product.{Product}
 use Rattle.flash_plan.specs.Files.{Files}
 use Rattle.flash_plan.specs.Moves.{PlanFault}
 use Rattle.flash_plan.specs.Plans.{steps_by, steps_of}
 use Rattle.flash_plan.specs.Products.{product_of}
 use Rattle.flash_plan.specs.declared.plan.Order.{Order}
-use Rattle.host_driver.specs.Driven.{is_met, planned, made}
-use Rattle.host_driver.specs.Jobs.{Job, Has, last_in}
-use Rattle.host_driver.specs.Printing.{Lines, Attempt, Asking, Asked, Again, in_order, is_answered, steps_in, text_of, lines_by, lines_of, joined, step_line}
+use Rattle.host_driver.specs.Driven.{is_met, planned}
+use Rattle.host_driver.specs.Jobs.{Has, last_in}
+use Rattle.host_driver.specs.Printing.{Lines, Attempt, Asking, Asked, Again, in_order, is_answered, steps_in, text_of, lines_by, lines_of, joined}
 use Rattle.host_driver.proofs.CompleteLemmas.{made-plan}
 use Rattle.host_words.specs.Words.{usual_options}
 use Rattle.host_top.specs.Verdicts.{Done, last_line}
 use Rattle.host_memory.specs.Rehearsals.{scene, IsInstalled as IsRehearsed}
 use Rattle.pair_port.specs.Pairs.{stand_in, stand_by}
 use Rattle.sample_product.specs.Products.{layout_text, IsSampleProduct}
-use Rattle.host_sample.specs.Samples.{image_path, HoldsSample, IsSampleDevice, IsInstalled, IsReported, report}
+use Rattle.host_sample.specs.Samples.{image_path, HoldsSample, IsSampleDevice, IsReported}
 
 is-taken : Result LayoutValue LayoutError → Bool
 is-taken (Ok layout) = true

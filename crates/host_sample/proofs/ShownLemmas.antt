@@ -14,8 +14,8 @@ use Rattle.device_jobs.specs.Jobs.{IsReported}
 use Rattle.fb_frame.proofs.SinkLemmas.{Grew-append}
 use Rattle.pair_port.specs.Pairs.{stand_in, stand_by}
 use Rattle.pair_port.specs.Stood.{IsStand}
-use Rattle.wire_told.specs.Places.{Stand, Device, Bad, Nothing}
-use Rattle.host_sample.specs.Samples.{image_path, IsSampled, IsReported as IsDone, report}
+use Rattle.wire_told.specs.Places.{Device}
+use Rattle.host_sample.specs.Samples.{image_path, IsSampled, IsReported as IsDone}
 
 same-text : (mode : Mode) (dev : Dev) → show_text (with_mode mode dev) ≡ show_text dev
 unfolding show_text

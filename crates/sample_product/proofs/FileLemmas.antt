@@ -1,5 +1,5 @@
 -- The files of a product, added one after another.
-use Rattle.std.proofs.Common.{◌≡◌, ℕ, List, [], ◌∷◌, ◌++◌, Option, Some, if◌then◌else◌, refl, ap, ◌∙◌, map, bytes_eq, string_bytes}
+use Rattle.std.proofs.Common.{◌≡◌, ℕ, List, [], ◌∷◌, ◌++◌, Some, if◌then◌else◌, refl, ap, ◌∙◌, map, bytes_eq, string_bytes}
 use Rattle.std.proofs.Common.{append_assoc}
 use Rattle.flash_plan.specs.declared.memory_dir.DirFile.{DirFile}
 use Rattle.flash_plan.specs.MemoryFiles.{file_of}

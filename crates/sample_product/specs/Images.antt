@@ -1,5 +1,5 @@
 -- Images of drawn bytes, each with where the draws stand after it.
-use Rattle.std.specs.Prelude.{◌<◌, ◌≤◌, ℕ, zero, suc, ◌+◌, ◌-◌, ◌*◌, List, [], ◌∷◌, ◌++◌}
+use Rattle.std.specs.Prelude.{◌≤◌, ℕ, zero, suc, ◌-◌, ◌*◌, List, [], ◌∷◌, ◌++◌}
 use Rattle.sparse_image.specs.Pieces.{head_bytes, header_bytes}
 use Rattle.sample_product.specs.declared.raw.Length.{Length}
 use Rattle.sample_product.specs.declared.raw.Length.TheVariants.{Bytes, Blocks}

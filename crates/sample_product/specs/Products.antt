@@ -1,5 +1,5 @@
 -- The product that is drawn by a number, and the layout of the device that it is for.
-use Rattle.std.specs.Prelude.{◌≡◌, ℕ, List, [], ◌∷◌, ◌++◌, Option, Some, None, if◌then◌else◌, codes, bytes_eq}
+use Rattle.std.specs.Prelude.{◌≡◌, ℕ, List, [], ◌∷◌, ◌++◌, Some, None, if◌then◌else◌, codes, bytes_eq}
 use Rattle.std.specs.Prelude.{string_bytes}
 use Rattle.flash_plan.specs.declared.memory_dir.DirFile.{DirFile}
 use Rattle.flash_plan.specs.Files.{Files}

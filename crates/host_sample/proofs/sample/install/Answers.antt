@@ -1,9 +1,9 @@
-use Rattle.std.proofs.Common.{◌≡◌, ◌∙◌, ap, sym, subst, refl, Some, map, string_bytes, List, ℕ}
+use Rattle.std.proofs.Common.{◌≡◌, ◌∙◌, ap, subst, refl, Some, map, string_bytes}
 use Rattle.clap.proofs.OnLiterals.{clap_on_literals}
 use Rattle.dev_disk.specs.Memory.{memory_files}
 use Rattle.flash_plan.specs.MemoryFiles.{file_of}
 use Rattle.wire_told.specs.Places.{ImageAt}
-use Rattle.host_words.specs.Requests.{Request, FlashAll}
+use Rattle.host_words.specs.Requests.{FlashAll}
 use Rattle.host_words.specs.Words.{host_words, usual_options}
 use Rattle.host_memory.specs.Rehearsals.{scene, OfFlash, IsInstalled}
 use Rattle.host_sample.specs.Samples.{sample_words, image_path, folder_path}

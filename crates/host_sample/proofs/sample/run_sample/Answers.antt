@@ -1,4 +1,4 @@
-use Rattle.std.proofs.Common.{rules, ◌≡◌, ◌∙◌, ap, sym, subst, Some, ℕ}
+use Rattle.std.proofs.Common.{rules, ◌≡◌, subst, Some}
 use Rattle.dev_disk.specs.Memory.{memory_files}
 use Rattle.device_jobs.specs.Jobs.{IsReported}
 use Rattle.device_jobs.specs.Outcomes.{Shown, opened}

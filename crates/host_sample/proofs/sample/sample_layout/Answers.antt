@@ -1,5 +1,4 @@
 use Rattle.std.proofs.Common.{◌∙◌, ap, sym, Err}
-use Rattle.dev_store.specs.declared.layout.LayoutError.{LayoutError}
 use Rattle.dev_store.specs.Layouts.{layout_of}
 use Rattle.host_sample.proofs.ReportLemmas.{never-bad}
 use Rattle.host_sample.proofs.sample.sample_layout.Goals as goal

@@ -1,4 +1,4 @@
-use Rattle.std.proofs.Common.{◌≡◌, IsTrue, refl, subst, sym}
+use Rattle.std.proofs.Common.{IsTrue, refl, subst, sym}
 use Rattle.super_meta.specs.Contents.{is_sound, are_named_apart, are_indexed, are_laid, are_known}
 use Rattle.sample_product.specs.Metadata.{sample_table}
 use Rattle.sample_product.proofs.metadata.super_image.Goals as goal
